@@ -1,0 +1,1165 @@
+/*
+ * The separate implementation: document 01's program, written from the
+ * document alone, to be compared with the project's own.
+ *
+ *   airway [--room N]            one session on standard input
+ *   airway [--room N] --frames   many sessions, each behind a line bytes=N
+ *   airway --piece NAME          one part of the method, see README.md
+ *
+ * Build with -ffp-contract=off: each operation rounds once.
+ */
+#include <float.h>
+#include <inttypes.h>
+#include <math.h>
+#include <stdbool.h>
+#include <stdint.h>
+#include <stdio.h>
+#include <stdlib.h>
+#include <string.h>
+
+_Static_assert(FLT_EVAL_METHOD == 0, "a double operation must round to binary64");
+_Static_assert(DBL_MANT_DIG == 53 && sizeof(double) == 8, "double must be binary64");
+
+enum { AIR = 0, OPENING = 1, WALL = 2 };
+
+enum {
+    MAX_SIDE = 32,
+    MAX_CELLS = MAX_SIDE * MAX_SIDE * MAX_SIDE,
+    MAX_LEVELS = 6,
+    OUTSIDE = MAX_CELLS,        /* the number of every place outside the box */
+    MAX_HEADER = 94,            /* the longest seven lines of the form */
+    MAX_DIGITS = 7,
+    PROGRAM_ROOM = 1000,        /* the program has rooms for 1,000 cells */
+    MAX_TOLERANCE = 1000000,
+    MAX_ROUNDS = 1000,
+    MAX_OPENING_LEVEL = 1000000,
+    MAX_SOURCE = 1000,
+    COARSEST_SWEEPS = 8
+};
+
+#define RESTRICTION_DIVISOR 512.0
+#define PROLONGATION_DIVISOR 256.0
+#define GREATEST_TICK 2199023255552.0   /* 2^41 */
+
+/* ------------------------------------------------------------------ */
+/* What comes back                                                    */
+
+typedef struct {
+    int number;
+    long place, rounds;
+    int64_t worst;
+    long interior, depth;
+} Answer;
+
+/* "Fields not named below are 0." */
+static Answer refusal(int number, long place)
+{
+    Answer answer = {0};
+    answer.number = number;
+    answer.place = place;
+    return answer;
+}
+
+/* ------------------------------------------------------------------ */
+/* The cast, and the levels of the grid                               */
+
+typedef struct {
+    int nx, ny, nz, cells;
+    unsigned char label[MAX_CELLS + 1]; /* label[OUTSIDE] is wall */
+    int neighbour[MAX_CELLS][6];        /* -x, +x, -y, +y, -z, +z */
+    int degree[MAX_CELLS];              /* d: the non-wall face neighbours */
+    bool band[MAX_CELLS];
+    double b[MAX_CELLS], u[MAX_CELLS], scratch[MAX_CELLS];
+} Level;
+
+static Level level[MAX_LEVELS];
+
+/* "Cell (i, j, k) has number i + nx*(j + ny*k)" */
+static int cell_at(const Level *l, int i, int j, int k)
+{
+    if (i < 0 || i >= l->nx || j < 0 || j >= l->ny || k < 0 || k >= l->nz)
+        return OUTSIDE;
+    return i + l->nx * (j + l->ny * k);
+}
+
+static void set_sides(Level *l, int nx, int ny, int nz)
+{
+    l->nx = nx;
+    l->ny = ny;
+    l->nz = nz;
+    l->cells = nx * ny * nz;
+    l->label[OUTSIDE] = WALL;   /* "outside the box is wall" */
+}
+
+static void find_neighbours(Level *l)
+{
+    for (int cell = 0; cell < l->cells; cell++) {
+        int i = cell % l->nx, j = cell / l->nx % l->ny, k = cell / l->nx / l->ny;
+        int *n = l->neighbour[cell];
+        n[0] = cell_at(l, i - 1, j, k);
+        n[1] = cell_at(l, i + 1, j, k);
+        n[2] = cell_at(l, i, j - 1, k);
+        n[3] = cell_at(l, i, j + 1, k);
+        n[4] = cell_at(l, i, j, k - 1);
+        n[5] = cell_at(l, i, j, k + 1);
+    }
+}
+
+/* "d counts the non-wall face neighbours (0 to 6)" */
+static void count_degrees(Level *l)
+{
+    for (int cell = 0; cell < l->cells; cell++) {
+        l->degree[cell] = 0;
+        for (int n = 0; n < 6; n++)
+            if (l->label[l->neighbour[cell][n]] != WALL)
+                l->degree[cell]++;
+    }
+}
+
+static void make_level(Level *l, int nx, int ny, int nz, const unsigned char *labels)
+{
+    set_sides(l, nx, ny, nz);
+    memcpy(l->label, labels, (size_t)l->cells);
+    find_neighbours(l);
+    count_degrees(l);
+}
+
+/* The children are (2I+a, 2J+b, 2K+c), a, b, c each 0 or 1: child 0 to 7. */
+static int child_of(const Level *fine, int I, int J, int K, int child)
+{
+    return cell_at(fine, 2 * I + (child & 1), 2 * J + (child >> 1 & 1), 2 * K + (child >> 2));
+}
+
+/* "opening if any child is, else air if any child is, else wall" */
+static unsigned char coarse_label(const Level *fine, int I, int J, int K)
+{
+    bool opening = false, air = false;
+    for (int child = 0; child < 8; child++) {
+        unsigned char label = fine->label[child_of(fine, I, J, K, child)];
+        opening = opening || label == OPENING;
+        air = air || label == AIR;
+    }
+    return opening ? OPENING : air ? AIR : WALL;
+}
+
+/* "Each side of the next level is half, rounded up." */
+static void coarsen(const Level *fine, Level *coarse)
+{
+    set_sides(coarse, (fine->nx + 1) / 2, (fine->ny + 1) / 2, (fine->nz + 1) / 2);
+    int cell = 0;
+    for (int K = 0; K < coarse->nz; K++)
+        for (int J = 0; J < coarse->ny; J++)
+            for (int I = 0; I < coarse->nx; I++)
+                coarse->label[cell++] = coarse_label(fine, I, J, K);
+    find_neighbours(coarse);
+    count_degrees(coarse);
+}
+
+/* ------------------------------------------------------------------ */
+/* Transfers                                                          */
+
+/* Weights 1, 3, 3, 1 along each axis; the product is exact. */
+static double product_weight(int a, int b, int c)
+{
+    static const int axis_weight[4] = {1, 3, 3, 1};
+    return axis_weight[a] * axis_weight[b] * axis_weight[c];
+}
+
+/* Coarse cell I draws along each axis from fine 2I-1, 2I, 2I+1, 2I+2. */
+static double restricted(const Level *fine, const double *u, int I, int J, int K)
+{
+    double sum = 0.0;
+    for (int c = 0; c < 4; c++)
+        for (int b = 0; b < 4; b++)
+            for (int a = 0; a < 4; a++) {
+                int cell = cell_at(fine, 2 * I - 1 + a, 2 * J - 1 + b, 2 * K - 1 + c);
+                if (fine->label[cell] == AIR)
+                    sum += product_weight(a, b, c) * u[cell];
+            }
+    return sum / RESTRICTION_DIVISOR;
+}
+
+/* "Into air cells only" */
+static void restrict_field(const Level *fine, const double *u, const Level *coarse, double *w)
+{
+    int cell = 0;
+    for (int K = 0; K < coarse->nz; K++)
+        for (int J = 0; J < coarse->ny; J++)
+            for (int I = 0; I < coarse->nx; I++, cell++)
+                w[cell] = coarse->label[cell] == AIR ? restricted(fine, u, I, J, K) : 0.0;
+}
+
+/* Along an axis fine place i is drawn on by this coarse place and the next. */
+static int first_coarse(int i)
+{
+    return (i + 1) / 2 - 1;
+}
+
+/* "the same weights from coarse to fine", the coarse cells in ascending number */
+static double prolongated(const Level *coarse, const double *w, int i, int j, int k)
+{
+    int I0 = first_coarse(i), J0 = first_coarse(j), K0 = first_coarse(k);
+    double sum = 0.0;
+    for (int K = K0; K <= K0 + 1; K++)
+        for (int J = J0; J <= J0 + 1; J++)
+            for (int I = I0; I <= I0 + 1; I++) {
+                int cell = cell_at(coarse, I, J, K);
+                if (coarse->label[cell] == AIR)
+                    sum += product_weight(i - (2 * I - 1), j - (2 * J - 1), k - (2 * K - 1)) * w[cell];
+            }
+    return sum / PROLONGATION_DIVISOR;
+}
+
+static void prolongate_field(const Level *coarse, const double *w, const Level *fine, double *u)
+{
+    int cell = 0;
+    for (int k = 0; k < fine->nz; k++)
+        for (int j = 0; j < fine->ny; j++)
+            for (int i = 0; i < fine->nx; i++, cell++)
+                u[cell] = fine->label[cell] == AIR ? prolongated(coarse, w, i, j, k) : 0.0;
+}
+
+/* ------------------------------------------------------------------ */
+/* The band                                                           */
+
+/* "Coarse places outside the box count as having one"; a child outside is wall. */
+static bool has_child_not_air(const Level *fine, const Level *coarse, int I, int J, int K)
+{
+    if (cell_at(coarse, I, J, K) == OUTSIDE)
+        return true;
+    for (int child = 0; child < 8; child++)
+        if (fine->label[child_of(fine, I, J, K, child)] != AIR)
+            return true;
+    return false;
+}
+
+/* "any of the up to 8 coarse cells that prolongate to it has a child that isn't air" */
+static bool near_not_air(const Level *fine, const Level *coarse, int i, int j, int k)
+{
+    int I0 = first_coarse(i), J0 = first_coarse(j), K0 = first_coarse(k);
+    for (int K = K0; K <= K0 + 1; K++)
+        for (int J = J0; J <= J0 + 1; J++)
+            for (int I = I0; I <= I0 + 1; I++)
+                if (has_child_not_air(fine, coarse, I, J, K))
+                    return true;
+    return false;
+}
+
+static void mark_band(Level *fine, const Level *coarse)
+{
+    int cell = 0;
+    for (int k = 0; k < fine->nz; k++)
+        for (int j = 0; j < fine->ny; j++)
+            for (int i = 0; i < fine->nx; i++, cell++)
+                fine->band[cell] = fine->label[cell] == AIR && near_not_air(fine, coarse, i, j, k);
+}
+
+/* ------------------------------------------------------------------ */
+/* The cycle in binary64                                              */
+
+/* "A u = d*u minus the sum of air neighbours": openings count as zero here. */
+static double operator_at(const Level *l, const double *u, int cell)
+{
+    double sum = 0.0;
+    for (int n = 0; n < 6; n++) {
+        int other = l->neighbour[cell][n];
+        if (l->label[other] == AIR)
+            sum += u[other];
+    }
+    return (double)l->degree[cell] * u[cell] - sum;
+}
+
+static double residual_at(const Level *l, const double *b, const double *u, int cell)
+{
+    return b[cell] - operator_at(l, u, cell);
+}
+
+static void residual_field(const Level *l, const double *b, const double *u, double *residual)
+{
+    for (int cell = 0; cell < l->cells; cell++)
+        residual[cell] = l->label[cell] == AIR ? residual_at(l, b, u, cell) : 0.0;
+}
+
+static void operator_field(const Level *l, const double *u, double *au)
+{
+    for (int cell = 0; cell < l->cells; cell++)
+        au[cell] = l->label[cell] == AIR ? operator_at(l, u, cell) : 0.0;
+}
+
+static void copy_field(const Level *l, const double *from, double *to)
+{
+    memcpy(to, from, (size_t)l->cells * sizeof *to);
+}
+
+static void zero_field(const Level *l, double *u)
+{
+    for (int cell = 0; cell < l->cells; cell++)
+        u[cell] = 0.0;
+}
+
+/* "all changes from the old u, then u + (2/3)*((b - A u)/d)" */
+static void jacobi(Level *l, const double *b, double *u)
+{
+    const double two_thirds = 2.0 / 3.0;
+    for (int cell = 0; cell < l->cells; cell++) {
+        double changed = 0.0;
+        if (l->label[cell] == AIR)
+            changed = u[cell] + two_thirds * (residual_at(l, b, u, cell) / (double)l->degree[cell]);
+        l->scratch[cell] = changed;
+    }
+    copy_field(l, l->scratch, u);
+}
+
+typedef enum { ASCENDING, DESCENDING } Direction;
+typedef enum { ALL_AIR, BAND_ONLY } Extent;
+
+/* "u becomes u + (b - A u)/d, one cell after another" */
+static void gauss_seidel(const Level *l, Extent extent, Direction direction, const double *b, double *u)
+{
+    for (int step = 0; step < l->cells; step++) {
+        int cell = direction == ASCENDING ? step : l->cells - 1 - step;
+        if (l->label[cell] != AIR || (extent == BAND_ONLY && !l->band[cell]))
+            continue;
+        u[cell] = u[cell] + residual_at(l, b, u, cell) / (double)l->degree[cell];
+    }
+}
+
+static void sweeps(const Level *l, Extent extent, Direction direction, int count, const double *b, double *u)
+{
+    for (int sweep = 0; sweep < count; sweep++)
+        gauss_seidel(l, extent, direction, b, u);
+}
+
+static void cycle(int number, int levels);
+
+/* The residual goes down, the coarser level's result is prolongated and added. */
+static void coarse_correction(int number, int levels)
+{
+    Level *fine = &level[number], *coarse = &level[number + 1];
+    residual_field(fine, fine->b, fine->u, fine->scratch);
+    restrict_field(fine, fine->scratch, coarse, coarse->b);
+    cycle(number + 1, levels);
+    prolongate_field(coarse, coarse->u, fine, fine->scratch);
+    for (int cell = 0; cell < fine->cells; cell++)
+        if (fine->label[cell] == AIR)
+            fine->u[cell] = fine->u[cell] + fine->scratch[cell];
+}
+
+/* The cycle of level `number`: from its b to its u. */
+static void cycle(int number, int levels)
+{
+    Level *l = &level[number];
+    zero_field(l, l->u);
+    if (number == levels - 1) {
+        sweeps(l, ALL_AIR, ASCENDING, COARSEST_SWEEPS, l->b, l->u);
+        sweeps(l, ALL_AIR, DESCENDING, COARSEST_SWEEPS, l->b, l->u);
+        return;
+    }
+    int band_sweeps = 2 << number;      /* 2^(l+1) */
+    jacobi(l, l->b, l->u);
+    sweeps(l, BAND_ONLY, ASCENDING, band_sweeps, l->b, l->u);
+    coarse_correction(number, levels);
+    sweeps(l, BAND_ONLY, DESCENDING, band_sweeps, l->b, l->u);
+    jacobi(l, l->b, l->u);
+}
+
+/* Level 0 stands; the levels below it and the bands are made from it. */
+static void make_coarser_levels(int levels)
+{
+    for (int number = 0; number + 1 < levels; number++) {
+        coarsen(&level[number], &level[number + 1]);
+        mark_band(&level[number], &level[number + 1]);
+    }
+}
+
+/* ------------------------------------------------------------------ */
+/* Walks and depth                                                    */
+
+typedef struct {
+    long depth;     /* 0 where there is no air */
+    int sealed;     /* the first air cell without a walk, or OUTSIDE */
+} Walks;
+
+/* Steps to an opening through air, from the openings outward; -1: no walk. */
+static void count_steps(const Level *l, int *steps)
+{
+    static int queue[MAX_CELLS];
+    int head = 0, tail = 0;
+    for (int cell = 0; cell < l->cells; cell++) {
+        steps[cell] = l->label[cell] == OPENING ? 0 : -1;
+        if (l->label[cell] == OPENING)
+            queue[tail++] = cell;
+    }
+    while (head < tail) {
+        int cell = queue[head++];
+        for (int n = 0; n < 6; n++) {
+            int other = l->neighbour[cell][n];
+            if (l->label[other] == AIR && steps[other] < 0) {
+                steps[other] = steps[cell] + 1;
+                queue[tail++] = other;
+            }
+        }
+    }
+}
+
+/* "the greatest, over air cells, of the least number of face steps" */
+static Walks walk_the_air(const Level *l)
+{
+    static int steps[MAX_CELLS];
+    Walks walks = {0, OUTSIDE};
+    count_steps(l, steps);
+    for (int cell = l->cells - 1; cell >= 0; cell--) {
+        if (l->label[cell] != AIR)
+            continue;
+        if (steps[cell] < 0)
+            walks.sealed = cell;
+        else if (steps[cell] > walks.depth)
+            walks.depth = steps[cell];
+    }
+    return walks;
+}
+
+static long count_air(const Level *l)
+{
+    long air = 0;
+    for (int cell = 0; cell < l->cells; cell++)
+        air += l->label[cell] == AIR;
+    return air;
+}
+
+/* ------------------------------------------------------------------ */
+/* Whole ticks and the exact residual                                 */
+
+/* "nearest whole tick, halves away from zero"; false: not finite or out of range */
+static bool whole_tick(double x, int64_t *tick)
+{
+    if (!isfinite(x))
+        return false;
+    double rounded = round(x);
+    if (fabs(rounded) > GREATEST_TICK)
+        return false;
+    *tick = (int64_t)rounded;
+    return true;
+}
+
+/* "Residual = source + that sum - d*p", "p at an opening is its level" */
+static int64_t exact_residual(const Level *l, const int64_t *values, const int64_t *pressures, int cell)
+{
+    int64_t sum = 0;
+    for (int n = 0; n < 6; n++) {
+        int other = l->neighbour[cell][n];
+        if (l->label[other] == AIR)
+            sum += pressures[other];
+        else if (l->label[other] == OPENING)
+            sum += values[other];
+    }
+    return values[cell] + sum - l->degree[cell] * pressures[cell];
+}
+
+/* "opening levels, 0 at walls, whole ticks in air" */
+static bool round_pressures(const Level *l, const int64_t *values, const double *x, int64_t *pressures)
+{
+    for (int cell = 0; cell < l->cells; cell++) {
+        pressures[cell] = l->label[cell] == OPENING ? values[cell] : 0;
+        if (l->label[cell] == AIR && !whole_tick(x[cell], &pressures[cell]))
+            return false;
+    }
+    return true;
+}
+
+/* "worst (greatest absolute residual)" */
+static int64_t worst_residual(const Level *l, const int64_t *values, const int64_t *pressures)
+{
+    int64_t worst = 0;
+    for (int cell = 0; cell < l->cells; cell++) {
+        if (l->label[cell] != AIR)
+            continue;
+        int64_t residual = exact_residual(l, values, pressures, cell);
+        int64_t size = residual < 0 ? -residual : residual;
+        if (size > worst)
+            worst = size;
+    }
+    return worst;
+}
+
+/* ------------------------------------------------------------------ */
+/* The session form                                                   */
+
+typedef struct {
+    int nx, ny, nz, cells;
+    bool big;
+    long tolerance, levels, rounds;
+    const unsigned char *labels;    /* a part of the session bytes */
+    int64_t values[MAX_CELLS];
+} Session;
+
+typedef struct {
+    const unsigned char *bytes;
+    size_t length, at;
+} Input;
+
+/* Takes the word if the input goes on with it. */
+static bool take_word(Input *in, const char *word)
+{
+    size_t size = strlen(word);
+    if (in->length - in->at < size || memcmp(in->bytes + in->at, word, size) != 0)
+        return false;
+    in->at += size;
+    return true;
+}
+
+/* "1 to 7 decimal digits with no sign and no leading zero, except 0 itself" */
+static bool take_number(Input *in, long *number)
+{
+    size_t start = in->at;
+    *number = 0;
+    while (in->at < in->length && in->at - start <= MAX_DIGITS
+           && in->bytes[in->at] >= '0' && in->bytes[in->at] <= '9')
+        *number = 10 * *number + (in->bytes[in->at++] - '0');
+    size_t digits = in->at - start;
+    return digits >= 1 && digits <= MAX_DIGITS && (digits == 1 || in->bytes[start] != '0');
+}
+
+static bool take_number_line(Input *in, const char *key, long *number)
+{
+    return take_word(in, key) && take_number(in, number) && take_word(in, "\n");
+}
+
+static bool take_order_line(Input *in, bool *big)
+{
+    if (!take_word(in, "order="))
+        return false;
+    *big = take_word(in, "big\n");
+    return *big || take_word(in, "little\n");
+}
+
+typedef struct {
+    long nx, ny, nz, tolerance, levels, rounds;
+    bool big;
+} Header;
+
+/* The number of the first line not of the form, or 0. */
+static int take_header(Input *in, Header *header)
+{
+    if (!take_number_line(in, "nx=", &header->nx)) return 1;
+    if (!take_number_line(in, "ny=", &header->ny)) return 2;
+    if (!take_number_line(in, "nz=", &header->nz)) return 3;
+    if (!take_order_line(in, &header->big)) return 4;
+    if (!take_number_line(in, "tolerance=", &header->tolerance)) return 5;
+    if (!take_number_line(in, "levels=", &header->levels)) return 6;
+    if (!take_number_line(in, "rounds=", &header->rounds)) return 7;
+    return 0;
+}
+
+static bool side_in_range(long side)
+{
+    return side >= 1 && side <= MAX_SIDE;
+}
+
+static bool settings_in_range(const Header *header)
+{
+    return header->tolerance <= MAX_TOLERANCE
+        && header->levels >= 1 && header->levels <= MAX_LEVELS
+        && header->rounds <= MAX_ROUNDS;
+}
+
+/* "one four-byte two's complement value per cell in the named order" */
+static int64_t value_of_bytes(const unsigned char *four, bool big)
+{
+    int64_t value = 0;
+    for (int n = 0; n < 4; n++)
+        value = value * 256 + four[big ? n : 3 - n];
+    return value >= INT64_C(2147483648) ? value - INT64_C(4294967296) : value;
+}
+
+static bool value_in_range(unsigned char label, int64_t value)
+{
+    int64_t most = label == OPENING ? MAX_OPENING_LEVEL : label == AIR ? MAX_SOURCE : 0;
+    return value >= -most && value <= most;
+}
+
+/* Answers 4 and 5, "each over the whole cast before the next" */
+static Answer take_body(const unsigned char *body, Session *session)
+{
+    session->labels = body;
+    for (int cell = 0; cell < session->cells; cell++)
+        if (body[cell] > WALL)
+            return refusal(4, cell);
+    const unsigned char *values = body + session->cells;
+    for (int cell = 0; cell < session->cells; cell++) {
+        session->values[cell] = value_of_bytes(values + 4 * cell, session->big);
+        if (!value_in_range(body[cell], session->values[cell]))
+            return refusal(5, cell);
+    }
+    return refusal(0, 0);
+}
+
+static void keep_header(const Header *header, Session *session)
+{
+    session->nx = (int)header->nx;
+    session->ny = (int)header->ny;
+    session->nz = (int)header->nz;
+    session->cells = session->nx * session->ny * session->nz;
+    session->big = header->big;
+    session->tolerance = header->tolerance;
+    session->levels = header->levels;
+    session->rounds = header->rounds;
+}
+
+/* "Reading checks 10, 1, 11, 2, 3, 4, 5"; the program's 2 comes before 11. */
+static Answer read_session(Input in, long room, Session *session)
+{
+    Header header = {0};
+    int line = take_header(&in, &header);
+    if (line != 0)
+        return refusal(10, line);
+    if (!side_in_range(header.nx) || !side_in_range(header.ny) || !side_in_range(header.nz))
+        return refusal(1, 0);
+    keep_header(&header, session);
+    if (session->cells > room)
+        return refusal(2, 0);
+    if (in.length - in.at != 5 * (size_t)session->cells)
+        return refusal(11, 0);
+    if (!settings_in_range(&header))
+        return refusal(3, 0);
+    return take_body(in.bytes + in.at, session);
+}
+
+/* ------------------------------------------------------------------ */
+/* The rounds                                                         */
+
+typedef struct {
+    double rho, sigma, alpha, beta;
+} Scalars;
+
+static double x[MAX_CELLS], r[MAX_CELLS], p[MAX_CELLS], ap[MAX_CELLS];
+static int64_t pressures[MAX_CELLS];
+
+/* "source plus neighbouring opening levels", in whole numbers, converted once */
+static double right_side(const Level *l, const int64_t *values, int cell)
+{
+    int64_t sum = values[cell];
+    for (int n = 0; n < 6; n++) {
+        int other = l->neighbour[cell][n];
+        if (l->label[other] == OPENING)
+            sum += values[other];
+    }
+    return (double)sum;
+}
+
+/* "x = 0, r = b" */
+static void start_rounds(const Level *cast, const int64_t *values)
+{
+    zero_field(cast, x);
+    for (int cell = 0; cell < cast->cells; cell++)
+        r[cell] = cast->label[cell] == AIR ? right_side(cast, values, cell) : 0.0;
+}
+
+/* "pass if all are finite, within range, and every exact residual is within tolerance" */
+static bool test(const Level *cast, const Session *session, int64_t *worst)
+{
+    if (!round_pressures(cast, session->values, x, pressures))
+        return false;
+    *worst = worst_residual(cast, session->values, pressures);
+    return *worst <= session->tolerance;
+}
+
+static double dot_product(const Level *l, const double *v, const double *w)
+{
+    double sum = 0.0;
+    for (int cell = 0; cell < l->cells; cell++)
+        if (l->label[cell] == AIR)
+            sum += v[cell] * w[cell];
+    return sum;
+}
+
+static bool finite_above_zero(double scalar)
+{
+    return isfinite(scalar) && scalar > 0.0;
+}
+
+/* "In the first round p = z, later p = z + beta*p" */
+static void new_direction(const Level *l, const double *z, bool first, double beta)
+{
+    for (int cell = 0; cell < l->cells; cell++)
+        if (first || l->label[cell] != AIR)
+            p[cell] = z[cell];
+        else
+            p[cell] = z[cell] + beta * p[cell];
+}
+
+/* One step up to alpha; false where a scalar stalls it. */
+static bool step(Level *cast, int levels, bool first, Scalars *scalars)
+{
+    copy_field(cast, r, cast->b);
+    cycle(0, levels);
+    double old_rho = scalars->rho;
+    scalars->rho = dot_product(cast, cast->u, r);
+    if (!finite_above_zero(scalars->rho))
+        return false;
+    scalars->beta = first ? 0.0 : scalars->rho / old_rho;
+    new_direction(cast, cast->u, first, scalars->beta);
+    operator_field(cast, p, ap);
+    scalars->sigma = dot_product(cast, p, ap);
+    if (!finite_above_zero(scalars->sigma))
+        return false;
+    scalars->alpha = scalars->rho / scalars->sigma;
+    return isfinite(scalars->alpha);
+}
+
+/* "Then x + alpha*p, r - alpha*A p" */
+static void update(const Level *l, double alpha)
+{
+    for (int cell = 0; cell < l->cells; cell++) {
+        if (l->label[cell] != AIR)
+            continue;
+        x[cell] = x[cell] + alpha * p[cell];
+        r[cell] = r[cell] - alpha * ap[cell];
+    }
+}
+
+/* From the first test to answer 0, 8 or 9. */
+static Answer run_rounds(const Session *session, long interior, long depth)
+{
+    Level *cast = &level[0];
+    Answer answer = {.interior = interior, .depth = depth};
+    Scalars scalars = {0};
+    int64_t worst = 0;
+    start_rounds(cast, session->values);
+    while (!test(cast, session, &worst)) {
+        if (answer.rounds == session->rounds) {
+            answer.number = 8;
+            return answer;
+        }
+        if (!step(cast, (int)session->levels, answer.rounds == 0, &scalars)) {
+            answer.number = 9;
+            return answer;
+        }
+        update(cast, scalars.alpha);
+        answer.rounds++;
+    }
+    answer.worst = worst;
+    return answer;
+}
+
+/* Answers 6 and 7; what the reader let through has no 1 to 5. */
+static Answer solve(const Session *session)
+{
+    Level *cast = &level[0];
+    make_level(cast, session->nx, session->ny, session->nz, session->labels);
+    long interior = count_air(cast);
+    if (interior == 0)
+        return refusal(6, 0);
+    Walks walks = walk_the_air(cast);
+    if (walks.sealed != OUTSIDE)
+        return refusal(7, walks.sealed);
+    make_coarser_levels((int)session->levels);
+    return run_rounds(session, interior, walks.depth);
+}
+
+/* ------------------------------------------------------------------ */
+/* The program                                                        */
+
+/* One byte more than the longest session shows every longer one to be too long. */
+enum { MAX_SESSION = MAX_HEADER + 5 * MAX_CELLS + 1 };
+
+static unsigned char session_bytes[MAX_SESSION];
+
+static void print_answer(const Answer *answer)
+{
+    printf("answer=%d\n", answer->number);
+    printf("place=%ld\n", answer->place);
+    printf("rounds=%ld\n", answer->rounds);
+    printf("worst=%" PRId64 "\n", answer->worst);
+    printf("interior=%ld\n", answer->interior);
+    printf("depth=%ld\n", answer->depth);
+}
+
+/* "the reader's answer if it refuses, else the solver's" */
+static void answer_session(size_t length, long room)
+{
+    static Session session;
+    Input in = {session_bytes, length, 0};
+    Answer answer = read_session(in, room, &session);
+    if (answer.number != 0) {
+        print_answer(&answer);
+        return;
+    }
+    answer = solve(&session);
+    print_answer(&answer);
+    if (answer.number != 0)
+        return;
+    for (int cell = 0; cell < session.cells; cell++)
+        printf("cell=%" PRId64 "\n", pressures[cell]);
+}
+
+static int run_session(long room)
+{
+    size_t length = fread(session_bytes, 1, MAX_SESSION, stdin);
+    answer_session(length, room);
+    return 0;
+}
+
+typedef enum { NO_FRAME, A_FRAME, BAD_FRAME } Frame;
+
+/* A line bytes=N; NO_FRAME where the input is at its end. */
+static Frame read_frame_line(long *size)
+{
+    unsigned char line[6 + MAX_DIGITS + 1];
+    size_t length = 0;
+    int byte = getchar();
+    if (byte == EOF)
+        return NO_FRAME;
+    while (byte != EOF) {
+        line[length++] = (unsigned char)byte;
+        if (byte == '\n' || length == sizeof line)
+            break;
+        byte = getchar();
+    }
+    Input in = {line, length, 0};
+    return take_number_line(&in, "bytes=", size) ? A_FRAME : BAD_FRAME;
+}
+
+/* Keeps as much of the frame as decides the answer; false if the input ends in it. */
+static bool read_frame(long size, size_t *length)
+{
+    size_t kept = size < MAX_SESSION ? (size_t)size : (size_t)MAX_SESSION;
+    *length = fread(session_bytes, 1, kept, stdin);
+    if (*length != kept)
+        return false;
+    for (long rest = size - (long)kept; rest > 0; rest--)
+        if (getchar() == EOF)
+            return false;
+    return true;
+}
+
+static int run_frames(long room)
+{
+    for (long number = 0;; number++) {
+        long size = 0;
+        size_t length = 0;
+        Frame frame = read_frame_line(&size);
+        if (frame == NO_FRAME)
+            return 0;
+        if (frame == BAD_FRAME || !read_frame(size, &length)) {
+            puts("frame=bad");
+            return 1;
+        }
+        printf("session=%ld\n", number);
+        answer_session(length, room);
+    }
+}
+
+/* ------------------------------------------------------------------ */
+/* Pieces: parts of the method by themselves, for comparing           */
+
+static void bad_piece(void)
+{
+    puts("piece=bad");
+    fflush(stdout);
+    exit(1);
+}
+
+static bool is_white(int byte)
+{
+    return byte == ' ' || (byte >= '\t' && byte <= '\r');
+}
+
+/* The next token, or false at the end of input. */
+static bool next_token(char token[32])
+{
+    int byte = getchar();
+    while (is_white(byte))
+        byte = getchar();
+    if (byte == EOF)
+        return false;
+    size_t length = 0;
+    while (byte != EOF && !is_white(byte)) {
+        if (length == 31 || byte == 0)
+            bad_piece();
+        token[length++] = (char)byte;
+        byte = getchar();
+    }
+    token[length] = '\0';
+    return true;
+}
+
+static int64_t whole_of_token(const char *token)
+{
+    const int64_t most = INT64_C(1) << 59;  /* so that no exact residual overflows */
+    bool negative = *token == '-';
+    if (negative)
+        token++;
+    size_t digits = strlen(token);
+    if (digits < 1 || digits > 18 || strspn(token, "0123456789") != digits)
+        bad_piece();
+    int64_t whole = strtoll(token, NULL, 10);
+    if (whole > most)
+        bad_piece();
+    return negative ? -whole : whole;
+}
+
+static double float_of_token(const char *token)
+{
+    if (strlen(token) != 16 || strspn(token, "0123456789abcdef") != 16)
+        bad_piece();
+    uint64_t bits = strtoull(token, NULL, 16);
+    double element;
+    memcpy(&element, &bits, sizeof element);
+    return element;
+}
+
+static int64_t read_whole(int64_t least, int64_t most)
+{
+    char token[32];
+    if (!next_token(token))
+        bad_piece();
+    int64_t whole = whole_of_token(token);
+    if (whole < least || whole > most)
+        bad_piece();
+    return whole;
+}
+
+/* Elements outside air are +0.0 by definition, whatever is handed in. */
+static void read_field(const Level *l, double *u)
+{
+    char token[32];
+    for (int cell = 0; cell < l->cells; cell++) {
+        if (!next_token(token))
+            bad_piece();
+        double element = float_of_token(token);
+        u[cell] = l->label[cell] == AIR ? element : 0.0;
+    }
+}
+
+static void read_whole_field(const Level *l, int64_t *wholes)
+{
+    for (int cell = 0; cell < l->cells; cell++)
+        wholes[cell] = read_whole(-(INT64_C(1) << 59), INT64_C(1) << 59);
+}
+
+static void end_of_fields(void)
+{
+    char token[32];
+    if (next_token(token))
+        bad_piece();
+}
+
+static void read_cast(Level *l)
+{
+    static unsigned char labels[MAX_CELLS];
+    int nx = (int)read_whole(1, MAX_SIDE);
+    int ny = (int)read_whole(1, MAX_SIDE);
+    int nz = (int)read_whole(1, MAX_SIDE);
+    for (int cell = 0; cell < nx * ny * nz; cell++)
+        labels[cell] = (unsigned char)read_whole(AIR, WALL);
+    make_level(l, nx, ny, nz, labels);
+}
+
+static void print_field(const Level *l, const double *u)
+{
+    for (int cell = 0; cell < l->cells; cell++) {
+        uint64_t bits;
+        memcpy(&bits, &u[cell], sizeof bits);
+        if (isnan(u[cell]))
+            puts("nan");
+        else
+            printf("%016" PRIx64 "\n", bits);
+    }
+}
+
+static void piece_coarse(void)
+{
+    end_of_fields();
+    coarsen(&level[0], &level[1]);
+    for (int cell = 0; cell < level[1].cells; cell++)
+        printf("%d\n", level[1].label[cell]);
+}
+
+static void piece_band(void)
+{
+    end_of_fields();
+    make_coarser_levels(2);
+    for (int cell = 0; cell < level[0].cells; cell++)
+        printf("%d\n", level[0].band[cell]);
+}
+
+static void piece_degree(void)
+{
+    end_of_fields();
+    for (int cell = 0; cell < level[0].cells; cell++)
+        printf("%d\n", level[0].degree[cell]);
+}
+
+static void piece_restrict(void)
+{
+    read_field(&level[0], level[0].u);
+    end_of_fields();
+    coarsen(&level[0], &level[1]);
+    restrict_field(&level[0], level[0].u, &level[1], level[1].b);
+    print_field(&level[1], level[1].b);
+}
+
+static void piece_prolong(void)
+{
+    coarsen(&level[0], &level[1]);
+    read_field(&level[1], level[1].u);
+    end_of_fields();
+    prolongate_field(&level[1], level[1].u, &level[0], level[0].u);
+    print_field(&level[0], level[0].u);
+}
+
+static void read_b_and_u(void)
+{
+    read_field(&level[0], level[0].b);
+    read_field(&level[0], level[0].u);
+    end_of_fields();
+}
+
+static void piece_sweep(Extent extent, Direction direction)
+{
+    read_b_and_u();
+    make_coarser_levels(2);
+    gauss_seidel(&level[0], extent, direction, level[0].b, level[0].u);
+    print_field(&level[0], level[0].u);
+}
+
+static void piece_up(void) { piece_sweep(ALL_AIR, ASCENDING); }
+static void piece_down(void) { piece_sweep(ALL_AIR, DESCENDING); }
+static void piece_bandup(void) { piece_sweep(BAND_ONLY, ASCENDING); }
+static void piece_banddown(void) { piece_sweep(BAND_ONLY, DESCENDING); }
+
+static void piece_jacobi(void)
+{
+    read_b_and_u();
+    jacobi(&level[0], level[0].b, level[0].u);
+    print_field(&level[0], level[0].u);
+}
+
+static void piece_residual(void)
+{
+    read_b_and_u();
+    residual_field(&level[0], level[0].b, level[0].u, level[0].scratch);
+    print_field(&level[0], level[0].scratch);
+}
+
+static void piece_cycle(void)
+{
+    int levels = (int)read_whole(1, MAX_LEVELS);
+    read_field(&level[0], level[0].b);
+    end_of_fields();
+    make_coarser_levels(levels);
+    cycle(0, levels);
+    print_field(&level[0], level[0].u);
+}
+
+static void piece_depth(void)
+{
+    end_of_fields();
+    Walks walks = walk_the_air(&level[0]);
+    if (walks.sealed == OUTSIDE)
+        printf("depth %ld\n", walks.depth);
+    else
+        printf("sealed %d\n", walks.sealed);
+}
+
+static void piece_exact(void)
+{
+    static int64_t values[MAX_CELLS];
+    const Level *l = &level[0];
+    read_whole_field(l, values);
+    read_whole_field(l, pressures);
+    end_of_fields();
+    for (int cell = 0; cell < l->cells; cell++) {
+        int64_t residual = l->label[cell] == AIR ? exact_residual(l, values, pressures, cell) : 0;
+        printf("%" PRId64 "\n", residual);
+    }
+}
+
+static void piece_tick(void)
+{
+    char token[32];
+    int64_t tick;
+    while (next_token(token))
+        if (whole_tick(float_of_token(token), &tick))
+            printf("%" PRId64 "\n", tick);
+        else
+            puts("none");
+}
+
+typedef struct {
+    const char *name;
+    void (*run)(void);
+} Piece;
+
+static const Piece pieces[] = {
+    {"coarse", piece_coarse}, {"band", piece_band}, {"degree", piece_degree},
+    {"restrict", piece_restrict}, {"prolong", piece_prolong},
+    {"up", piece_up}, {"down", piece_down},
+    {"bandup", piece_bandup}, {"banddown", piece_banddown},
+    {"jacobi", piece_jacobi}, {"residual", piece_residual},
+    {"cycle", piece_cycle}, {"depth", piece_depth},
+    {"exact", piece_exact}, {"tick", piece_tick},
+};
+
+static int run_piece(const Piece *piece)
+{
+    read_cast(&level[0]);
+    piece->run();
+    return 0;
+}
+
+/* ------------------------------------------------------------------ */
+/* Arguments                                                          */
+
+typedef struct {
+    long room;
+    bool frames;
+    const Piece *piece;
+} Options;
+
+static const Piece *piece_named(const char *name)
+{
+    for (size_t n = 0; n < sizeof pieces / sizeof *pieces; n++)
+        if (strcmp(pieces[n].name, name) == 0)
+            return &pieces[n];
+    return NULL;
+}
+
+static bool whole_argument(const char *text, long *number)
+{
+    Input in = {(const unsigned char *)text, strlen(text), 0};
+    return take_number(&in, number) && in.at == in.length;
+}
+
+static bool read_options(int count, char **argument, Options *options)
+{
+    for (int n = 1; n < count; n++) {
+        if (strcmp(argument[n], "--frames") == 0) {
+            options->frames = true;
+        } else if (strcmp(argument[n], "--room") == 0 && n + 1 < count) {
+            if (!whole_argument(argument[++n], &options->room))
+                return false;
+        } else if (strcmp(argument[n], "--piece") == 0 && n + 1 < count) {
+            options->piece = piece_named(argument[++n]);
+            if (options->piece == NULL)
+                return false;
+        } else {
+            return false;
+        }
+    }
+    return true;
+}
+
+int main(int count, char **argument)
+{
+    Options options = {.room = PROGRAM_ROOM};
+    if (!read_options(count, argument, &options)) {
+        fputs("usage: airway [--room N] [--frames] | --piece NAME\n", stderr);
+        return 2;
+    }
+    int status = options.piece != NULL ? run_piece(options.piece)
+               : options.frames ? run_frames(options.room)
+               : run_session(options.room);
+    return fflush(stdout) == 0 && !ferror(stdout) ? status : 1;
+}

@@ -1,0 +1,19 @@
+-- Lists made and gone through from the first element on.
+use Prim.Native.Nat.{ℕ, zero, suc}
+use mathlib.Core.Bool.{Bool, true, false, _||_, cond}
+use mathlib.Core.List.{List, [], _∷_}
+
+module _ {A : Type 0} where
+  -- f 0, f 1, .. f (n - 1)
+  unfoldable pub tab : ℕ → (ℕ → A) → List A
+  tab zero f = []
+  tab (suc n) f = f zero ∷ tab n (λ k. f (suc k))
+
+  unfoldable pub any : (A → Bool) → List A → Bool
+  any f [] = false
+  any f (a ∷ l) = f a || any f l
+
+  -- b after f at each element that passes the test, in the list's order
+  unfoldable pub over : {B : Type 0} → (A → Bool) → (A → B → B) → List A → B → B
+  over test f [] b = b
+  over test f (a ∷ l) b = over test f l (cond (test a) (f a b) b)

@@ -1,0 +1,1 @@
+// Mathematics with no airway in it: definitions in specs/, their laws in proofs/. No code.

@@ -1,0 +1,2 @@
+-- The hand cases.
+pub mod Cases

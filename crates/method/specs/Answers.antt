@@ -1,0 +1,60 @@
+-- Document 01, "What comes back". Definitions only.
+use Prim.Native.Nat.{ℕ, zero, suc, _+_, _*_}
+use mathlib.Core.Bool.{Bool, true, false}
+use mathlib.Core.List.{List, [], _∷_, _++_}
+use lib.ListN.{drop, replicate}
+use Rattle.method.specs.declared.Answer.{Answer}
+use Rattle.method.specs.declared.Found.{Found}
+use Rattle.method.specs.declared.Found.the-variants.{Nowhere, At}
+
+-- ---- "Every answer has: number, place, rounds, worst, interior, depth. Fields not named below are 0."
+unfoldable pub refusal : ℕ → ℕ → Answer
+refusal num place = record { number = num; place = place; rounds = 0; worst = 0; interior = 0; depth = 0 }
+
+unfoldable pub accepted : ℕ → ℕ → ℕ → ℕ → Answer
+accepted rounds worst interior depth = record { number = 0; place = 0; rounds = rounds; worst = worst; interior = interior; depth = depth }
+
+unfoldable pub unfinished : ℕ → ℕ → ℕ → ℕ → Answer
+unfinished num rounds interior depth = record { number = num; place = 0; rounds = rounds; worst = 0; interior = interior; depth = depth }
+
+-- "A session read or written is answer 0 with the other fields 0."
+unfoldable pub done : Answer
+done = refusal 0 0
+
+-- ---- checks in order, each over the whole of what was handed in before the next: the first that fails gives number and place
+pub record Check (A : Type 0) : Type 0 where
+  pub number : ℕ
+  pub fails : A → Found
+
+abbrev pub check : {A : Type 0} → ℕ → (A → Found) → Check A
+check num fails = record { number = num; fails = fails }
+
+-- a fault that has no place
+unfoldable pub fault : Bool → Found
+fault true = At 0
+fault false = Nowhere
+
+pub data Verdict : Type 0 where
+  passed : Verdict
+  refused : ℕ → ℕ → Verdict
+
+unfoldable pub verdict : {A : Type 0} → List (Check A) → A → Verdict
+verdict [] a = passed
+verdict (c ∷ cs) a = elim (c .fails a) [ At place ↦ refused (c .number) place | Nowhere ↦ verdict cs a ]
+
+-- ---- "Rooms: bytes, 2·cells + 16; binary64, 8·cells + 64; u32, 2·cells."
+unfoldable pub byteNeed : ℕ → ℕ
+byteNeed n = 2 * n + 16
+
+unfoldable pub floatNeed : ℕ → ℕ
+floatNeed n = 8 * n + 64
+
+unfoldable pub wordNeed : ℕ → ℕ
+wordNeed n = 2 * n
+
+-- "the needed part of each room as zeros, the rest untouched"; what is filled: "beyond the need it stays as it was"
+unfoldable pub cleared : {A : Type 0} → ℕ → A → List A → List A
+cleared need z room = replicate need z ++ drop need room
+
+unfoldable pub filled : {A : Type 0} → ℕ → List A → List A → List A
+filled need l slice = l ++ drop need slice

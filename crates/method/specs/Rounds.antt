@@ -1,0 +1,172 @@
+-- Document 01, "The rounds". Definitions only.
+use Prim.Native.Nat.{ℕ, zero, suc, _+_, _-_, _*_, _/_, _%_, _^_}
+use mathlib.Core.Bool.{Bool, true, false, not, _&&_, cond}
+use mathlib.Core.List.{List, map}
+use lib.Dec.{ltb, leb}
+use lib.IntN.{ℤ, pos, negℤ}
+use lib.Ieee as Ieee
+use lib.Ieee.{Float, nan, inf, fin}
+use Rattle.laws.specs.Loops.{up}
+use Rattle.laws.specs.Lists.{tab, any, over}
+use Rattle.laws.specs.Whole.{_+ᶻ_}
+use Rattle.laws.specs.Binary64.{_⊕_, _⊖_, _⊗_, _⊘_, +0, ofℤ}
+use Rattle.method.specs.declared.Sides.{Sides}
+use Rattle.method.specs.declared.Settings.{Settings}
+use Rattle.method.specs.declared.Answer.{Answer}
+use Rattle.method.specs.declared.Tick.{Tick}
+use Rattle.method.specs.declared.Tick.the-variants.{Whole, Refused}
+use Rattle.method.specs.declared.Scalars.{Scalars}
+use Rattle.method.specs.declared.Step.{Step}
+use Rattle.method.specs.declared.Step.the-variants.{Go, Stalled}
+use Rattle.method.specs.Cast.{Cast, cells, isAir, isOpening, around, field, level, worst, interior, depth}
+use Rattle.method.specs.Answers.{accepted, unfinished}
+use Rattle.method.specs.Levels.{value, inAir}
+use Rattle.method.specs.Cycle.{applied, cycle, zeros}
+
+-- ---- "b is source plus neighbouring opening levels": whole, converted once
+unfoldable pub rightSide : Cast → List Float
+rightSide k =
+    inAir (k .sides) (k .labels)
+    (λ c. ofℤ (over (isOpening (k .labels)) (λ j b. b +ᶻ level (k .labels) (k .values) j) (around (k .sides) c) (field (k .values) c)))
+
+-- ---- "round every x to the nearest whole tick, halves away from zero"
+-- what lies half way between q and q + 1, away from zero
+unfoldable pub tie : ℕ → ℕ
+tie q = q + 1
+
+-- the whole number nearest to a / b
+unfoldable pub nearest : ℕ → ℕ → ℕ
+nearest a b = cond (ltb (a % b * 2) b) (a / b) (cond (ltb b (a % b * 2)) (a / b + 1) (tie (a / b)))
+
+unfoldable pub furthest : ℕ
+furthest = 2 ^ 41
+
+unfoldable pub signed : Bool → ℕ → ℤ
+signed true m = negℤ (pos m)
+signed false m = pos m
+
+-- "finite, within ±2^41 after rounding"
+unfoldable pub kept : Bool → ℕ → Tick
+kept s m = cond (leb m furthest) (Whole (signed s m)) Refused
+
+unfoldable pub tick : Float → Tick
+tick nan = Refused
+tick (inf s) = Refused
+tick (fin s m e) = kept s (nearest (m * Ieee.up e) (Ieee.down e))
+
+-- "opening levels, 0 at walls, whole ticks in air"
+unfoldable pub ticks : Cast → List Float → List Tick
+ticks k x = tab (cells (k .sides)) (λ c. cond (isAir (k .labels) c) (tick (value x c)) (Whole (level (k .labels) (k .values) c)))
+
+unfoldable pub isRefused : Tick → Bool
+isRefused (Whole z) = false
+isRefused Refused = true
+
+unfoldable pub wholeOf : Tick → ℤ
+wholeOf (Whole z) = z
+wholeOf Refused = pos 0
+
+unfoldable pub rounded : Cast → List Float → List ℤ
+rounded k x = map wholeOf (ticks k x)
+
+-- "pass if all are finite, within ±2^41 after rounding, and every exact residual is within tolerance"
+unfoldable pub passes : Cast → Settings → List Float → Bool
+passes k t x = not (any isRefused (ticks k x)) && leb (worst k (rounded k x)) (t .tolerance)
+
+-- ---- a round
+-- how many rounds are done; x, r, the last round's p and rho
+pub record State : Type 0 where
+  pub rounds : ℕ
+  pub x : List Float
+  pub r : List Float
+  pub p : List Float
+  pub rho : Float
+
+-- "over air cells", from +0.0
+unfoldable pub dot : Sides → List ℕ → (ℕ → Float) → (ℕ → Float) → Float
+dot s ls f g = up (λ c a. cond (isAir ls c) (a ⊕ f c ⊗ g c) a) (cells s) +0
+
+-- "In the first round p = z, later p = z + beta·p with beta = new rho / old rho."
+unfoldable pub betaOf : ℕ → Float → Float → Float
+betaOf zero new old = +0
+betaOf (suc k) new old = new ⊘ old
+
+unfoldable pub direction : ℕ → Float → Float → Float → Float
+direction zero beta z p = z
+direction (suc k) beta z p = z ⊕ beta ⊗ p
+
+unfoldable pub finite : Float → Bool
+finite nan = false
+finite (inf s) = false
+finite (fin s m e) = true
+
+-- "finite and above 0"
+unfoldable pub usable : Float → Bool
+usable a = finite a && Ieee.lt +0 a
+
+-- "The step hands back either alpha or the scalar that stalled it."
+unfoldable pub step : Scalars → Step
+step q =
+    cond (usable (q .rho)) (cond (usable (q .sigma)) (cond (finite (q .alpha)) (Go (q .alpha)) (Stalled (q .alpha))) (Stalled (q .sigma))) (Stalled (q .rho))
+
+-- what a round ends in: the next state, or a stall
+pub data Turn : Type 0 where
+  stalled : Turn
+  turned : State → Turn
+
+module _ (s : Sides) (ls : List ℕ) (below : ℕ) (st : State) where
+  -- "The four scalars of a round travel together."
+  unfoldable pub scalars : List Float → List Float → Float → Scalars
+  scalars z p new =
+      let sigma = dot s ls (value p) (applied s ls p) in
+      record { rho = new; sigma = sigma; alpha = new ⊘ sigma; beta = betaOf (st .rounds) new (st .rho) }
+
+  -- "Then x + alpha·p, r - alpha·A p, one round more"
+  unfoldable pub moved : List Float → Float → Step → Turn
+  moved p new (Stalled a) = stalled
+  moved p new (Go alpha) = turned record {
+    rounds = suc (st .rounds);
+    x = inAir s ls (λ c. value (st .x) c ⊕ alpha ⊗ value p c);
+    r = inAir s ls (λ c. value (st .r) c ⊖ alpha ⊗ applied s ls p c);
+    p = p;
+    rho = new;
+  }
+
+  unfoldable pub round : Turn
+  unfolding moved
+  round =
+      let z = cycle 0 below s ls (st .r) in
+      let new = dot s ls (value z) (value (st .r)) in
+      let beta = betaOf (st .rounds) new (st .rho) in
+      let p = inAir s ls (λ c. direction (st .rounds) beta (value z c) (value (st .p) c)) in
+      moved p new (step (scalars z p new))
+
+-- ---- the rounds: how a solve ends, and with which pressures where it is accepted
+pub data End : Type 0 where
+  solved : Answer → List ℤ → End
+  failed : Answer → End
+
+module _ (k : Cast) (t : Settings) (inside deep : ℕ) where
+  unfoldable pub pass : State → End
+  pass st = solved (accepted (st .rounds) (worst k (rounded k (st .x))) inside deep) (rounded k (st .x))
+
+  unfoldable pub fail : ℕ → State → End
+  fail num st = failed (unfinished num (st .rounds) inside deep)
+
+  -- "A pass is answer 0; a failed test with rounds equal to the limit is 8. Otherwise .." left is how many rounds are left.
+  unfoldable pub run : ℕ → State → End
+  run zero st = elim (passes k t (st .x)) [ true ↦ pass st | false ↦ fail 8 st ]
+  run (suc left) st =
+      elim (passes k t (st .x)) [
+        | true ↦ pass st
+        | false ↦ elim (round (k .sides) (k .labels) (t .levels - 1) st) [ stalled ↦ fail 9 st | turned next ↦ run left next ]
+      ]
+
+-- "x = 0, r = b"
+unfoldable pub start : Cast → State
+start k =
+    let none = zeros (k .sides) in
+    record { rounds = 0; x = none; r = rightSide k; p = none; rho = +0 }
+
+unfoldable pub ending : Cast → Settings → End
+ending k t = run k t (interior (k .sides) (k .labels)) (depth (k .sides) (k .labels)) (t .rounds) (start k)
