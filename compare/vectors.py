@@ -187,6 +187,22 @@ def byte_sessions(separate, rng, seed, count):
     return made
 
 
+DAMAGES = [lambda w: b"0" + w, lambda w: b"00000001", lambda w: b"+" + w, lambda w: b"", lambda w: w + b" ", lambda w: w + b"\r"]
+
+
+def form_sessions(rng, count):
+    """A header line spelled wrongly: each way of spelling, on one number's line after another."""
+    whole = generate.session_bytes(3, 1, 1, rng.choice(["big", "little"]), 4, 1, 5, [1, 0, 1], [10, 0, 20])
+    made = []
+    for k in range(count):
+        lines = whole.split(b"\n", 7)
+        at = [0, 1, 2, 4, 5, 6][k % 6]
+        key, word = lines[at].split(b"=")
+        lines[at] = key + b"=" + DAMAGES[(k + k // 6) % 6](word)
+        made.append((f"line {at + 1} spelled wrongly", b"\n".join(lines)))
+    return made
+
+
 def rewritten(rng, number):
     """An accepted session: what the writer makes of it in each order, with what the output holds beyond."""
     nx, ny, nz, labels, values = generate.small_cast(rng, 8)
@@ -293,6 +309,7 @@ def all_vectors(separate, seed, casts, sessions, pieces):
     rng = random.Random(f"vectors {seed}")
     made = [printed_vector(separate, s, "cast", key) for key, s in cast_sessions(separate, rng, casts)]
     made += [printed_vector(separate, s, "session", key) for key, s in byte_sessions(separate, rng, seed, sessions)]
+    made += [printed_vector(separate, s, "session", key) for key, s in form_sessions(rng, max(12, sessions // 4))]
     for number in range(max(1, sessions // 8)):
         made += rewritten(rng, number)
     made += [piece_vector(separate, rng, PIECES[k % len(PIECES)]) for k in range(pieces)]

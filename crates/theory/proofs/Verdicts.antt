@@ -1,0 +1,49 @@
+-- What a list of checks says: passed means that each check found nothing; a refusal has the number of one of them, and those before it passed. Assumes nothing.
+use mathlib.Core.Path.{_≡_, refl, sym, ap, _∙_}
+use mathlib.Core.Bool.{Bool, true, false, not}
+use mathlib.Core.List.{List, [], _∷_}
+use Prim.Native.Nat.{ℕ, zero, suc, _<_, _≤_}
+use native.Mathlib.Omega.{arith}
+use Rattle.method.specs.declared.Found.{Found}
+use Rattle.method.specs.declared.Found.the-variants.{Nowhere, At}
+use Rattle.method.specs.Answers.{Check, check, fault, Verdict, passed, refused, verdict}
+use Rattle.theory.proofs.Reach.{never}
+
+-- every check finds nothing
+abbrev pub AllPass : {A : Type 0} → List (Check A) → A → Type 0
+AllPass [] a = Unit {0}
+AllPass (c ∷ cs) a = (c .fails a ≡ Nowhere) × AllPass cs a
+
+-- every check's number is from lo to hi
+abbrev pub Numbered : {A : Type 0} → ℕ → ℕ → List (Check A) → Type 0
+Numbered lo hi [] = Unit {0}
+Numbered lo hi (c ∷ cs) = ((lo ≤ c .number) × (c .number ≤ hi)) × Numbered lo hi cs
+
+-- a verdict by cases, with what was found on the way
+pub data Judged {A : Type 0} (cs : List (Check A)) (a : A) : Type 0 where
+  fine : verdict cs a ≡ passed → AllPass cs a → Judged cs a
+  faulty : (num place : ℕ) → verdict cs a ≡ refused num place → ((lo hi : ℕ) → Numbered lo hi cs → (lo ≤ num) × (num ≤ hi)) → Judged cs a
+
+pub judge : {A : Type 0} (cs : List (Check A)) (a : A) → Judged cs a
+unfolding verdict
+judge [] a = fine refl tt
+judge {A} (c ∷ cs) a = go (c .fails a) refl (judge cs a)
+  where
+    after : Found → Verdict
+    after f = elim f [ At place ↦ refused (c .number) place | Nowhere ↦ verdict cs a ]
+
+    go : (f : Found) → c .fails a ≡ f → Judged cs a → Judged (c ∷ cs) a
+    go (At place) e r = faulty (c .number) place (ap after e) (λ lo hi n. n .0)
+    go Nowhere e (fine v p) = fine (ap after e ∙ v) (e, p)
+    go Nowhere e (faulty num place v f) = faulty num place (ap after e ∙ v) (λ lo hi n. f lo hi (n .1))
+
+-- a check for a fault found nothing: there is none
+pub no-fault : (b : Bool) → fault (not b) ≡ Nowhere → b ≡ true
+unfolding fault
+no-fault true e = refl
+no-fault false e = absurd (never e refl)
+
+pub no-fault′ : (b : Bool) → fault b ≡ Nowhere → b ≡ false
+unfolding fault
+no-fault′ true e = absurd (never e refl)
+no-fault′ false e = refl

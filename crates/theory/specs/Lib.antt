@@ -1,0 +1,5 @@
+-- What the theorems are about.
+pub mod Walks
+pub mod Exact
+pub mod Answered
+pub mod Levels

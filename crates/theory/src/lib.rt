@@ -1,0 +1,1 @@
+// Theorems about the meaning: statements in specs/, proofs in proofs/. No code.
