@@ -17,6 +17,13 @@ use Rattle.method.specs.Form.{Header, Lines, wrong, header, headerOf, ba
 use Rattle.method.specs.Answers.{Check, check, fault, Verdict, passed, refused, verdict, refusal, done, byteNeed, floatNeed, wordNeed, cleared, filled}
 use Rattle.method.specs.Rounds.{End, solved, failed, ending}
 
+-- ---- checks 4 and 5, of a cast
+abbrev pub labelFault : Cast → Found
+labelFault k = badLabel (k .sides) (k .labels)
+
+abbrev pub valueFault : Cast → Found
+valueFault k = badValue (k .sides) (k .labels) (k .values)
+
 -- ---- solving: what is handed in and lent
 pub record Asked : Type 0 where
   pub cast : Cast
@@ -41,7 +48,7 @@ checksBefore7 =
     check 1 (λ a. fault (not (sidesFit (a .cast .sides))))
     ∷ check 2 (λ a. fault (not (lengthsFit a)))
     ∷ check 3 (λ a. fault (not (settingsFit (a .settings))))
-    ∷ check 4 (λ a. badLabel (a .cast)) ∷ check 5 (λ a. badValue (a .cast))
+    ∷ check 4 (λ a. labelFault (a .cast)) ∷ check 5 (λ a. valueFault (a .cast))
     ∷ check 6 (λ a. fault (eqb (interior (a .cast .sides) (a .cast .labels)) 0))
     ∷ []
 
@@ -111,7 +118,7 @@ roomCheck = check 2 (λ r. fault (ltb (length (r .values)) (cells (named r .side
 unfoldable pub contentChecks : List (Check Reading)
 contentChecks =
     check 3 (λ r. fault (not (settingsFit (named r .settings))))
-    ∷ check 4 (λ r. badLabel (castIn (named r))) ∷ check 5 (λ r. badValue (castIn (named r)))
+    ∷ check 4 (λ r. labelFault (castIn (named r))) ∷ check 5 (λ r. valueFault (castIn (named r)))
     ∷ []
 
 unfoldable pub readerChecks : List (Check Reading)
@@ -158,7 +165,7 @@ writerChecks =
     check 1 (λ w. fault (not (sidesFit (w .cast .sides))))
     ∷ check 3 (λ w. fault (not (settingsFit (w .settings))))
     ∷ check 2 (λ w. fault (not (writerLengthsFit w)))
-    ∷ check 4 (λ w. badLabel (w .cast)) ∷ check 5 (λ w. badValue (w .cast))
+    ∷ check 4 (λ w. labelFault (w .cast)) ∷ check 5 (λ w. valueFault (w .cast))
     ∷ []
 
 -- the answer; "The writer hands back the bytes written, 0 on a refusal"; and what the lent output holds

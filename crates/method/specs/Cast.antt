@@ -156,8 +156,8 @@ unfoldable pub settingsFit : Settings → Bool
 settingsFit t = between 0 1000000 (t .tolerance) && (between 1 6 (t .levels) && between 0 1000 (t .rounds))
 
 -- a label above 2; a value out of its label's range
-unfoldable pub badLabel : Cast → Found
-badLabel k = first (λ c. ltb 2 (labelAt (k .labels) c)) (cells (k .sides))
+unfoldable pub badLabel : Sides → List ℕ → Found
+badLabel s ls = first (λ c. ltb 2 (labelAt ls c)) (cells s)
 
-unfoldable pub badValue : Cast → Found
-badValue k = first (λ c. ltb (widest (labelAt (k .labels) c)) (natAbs (field (k .values) c))) (cells (k .sides))
+unfoldable pub badValue : Sides → List ℕ → List ℤ → Found
+badValue s ls vs = first (λ c. ltb (widest (labelAt ls c)) (natAbs (field vs c))) (cells s)
