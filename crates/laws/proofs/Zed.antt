@@ -2,12 +2,12 @@
 -- difference p - m; `lin` is the set by which `search` writes a sum, a product, a negation so. Assumes nothing.
 use mathlib.Core.Path.{_≡_, refl, ap, _∙_}
 use mathlib.Core.Bool.{Bool, true, false, not, cond}
-use Prim.Native.Nat.{ℕ, zero, suc, _+_, _*_, _-_, _<_, _≤_}
+use Prim.Native.Nat.{ℕ, zero, suc, _+_, _*_, _-_, _<_, _≤_, min}
 use native.Mathlib.Omega.{arith}
 use lib.Dec.{T, ltb, ltb→lt, nltb→le, le→leb, leb→le}
-use lib.IntN.{ℤ, pos, negsuc, negℤ, _+ℤ_, _*ℤ_, subℕ}
+use lib.IntN.{ℤ, pos, negsuc, negℤ, natAbs, _+ℤ_, _*ℤ_, subℕ}
 use lib.Signed.{_≤ℤ_, _<ℤ_, leZ, ltZ}
-use Rattle.laws.specs.Whole.{_+ᶻ_, _*ᶻ_, neg}
+use Rattle.laws.specs.Whole.{_+ᶻ_, _-ᶻ_, _*ᶻ_, neg}
 
 abbrev pub P : ℤ → ℕ
 P (pos n) = n
@@ -159,3 +159,30 @@ pub sq-zero : (x : ℤ) → x *ᶻ x ≤ℤ pos 0 → x ≡ pos 0
 sq-zero (pos zero) h = refl
 sq-zero (pos (suc k)) h = absurd (omega (arith, le-z (search lin) h))
 sq-zero (negsuc k) h = let X = at (negsuc k) in absurd (omega (arith, le-z (search lin) h))
+
+-- ---- sizes
+pub abs-parts : (z : ℤ) → natAbs z ≡ P z + M z
+abs-parts (pos n) = omega arith
+abs-parts (negsuc n) = omega arith
+
+pub abs-neg : (z : ℤ) → natAbs (neg z) ≡ natAbs z
+abs-neg z = omega (arith, abs-parts z, abs-parts (neg z), neg-parts z .0, neg-parts z .1)
+
+pub abs-times : (m : ℕ) (z : ℤ) → natAbs (pos m *ᶻ z) ≡ m * natAbs z
+abs-times m z = abs-parts (pos m *ᶻ z) ∙ omega (arith, mul-pos-parts m z .0, mul-pos-parts m z .1, ap (λ t. m * t) (abs-parts z))
+
+pub abs-le : (z : ℤ) (b : ℕ) → z ≤ℤ pos b → neg z ≤ℤ pos b → natAbs z ≤ b
+abs-le (pos n) b h k = omega (arith, le-parts h)
+abs-le (negsuc n) b h k = omega (arith, le-parts k, neg-parts (negsuc n) .0, neg-parts (negsuc n) .1)
+
+-- a sum is no larger than its parts together
+pub abs-add : (a b : ℤ) → natAbs (a +ᶻ b) ≤ natAbs a + natAbs b
+unfolding _+ᶻ_
+abs-add a b = omega (arith, abs-parts a, abs-parts b, abs-parts (a +ℤ b), add-parts a b, one-part (a +ℤ b))
+  where
+    one-part : (z : ℤ) → min (P z) (M z) ≡ 0
+    one-part (pos n) = omega arith
+    one-part (negsuc n) = omega arith
+
+pub abs-sub : (a b : ℤ) → natAbs (a -ᶻ b) ≤ natAbs a + natAbs b
+abs-sub a b = omega (arith, abs-add a (neg b), abs-neg b)

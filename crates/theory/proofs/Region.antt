@@ -8,7 +8,7 @@ use lib.Dec.{T}
 use lib.IntN.{ℤ, pos, negsuc, natAbs}
 use lib.Signed.{_≤ℤ_}
 use Rattle.laws.specs.Whole.{_-ᶻ_, _*ᶻ_, neg}
-use Rattle.laws.proofs.Zed.{P, M, at, lin, z-eq, z-le, neg-parts, mul-pos-parts, le-parts}
+use Rattle.laws.proofs.Zed.{at, lin, z-eq, z-le, abs-neg, abs-times, abs-le}
 use Rattle.laws.proofs.Sums.{sum, sum-cong, sum-neg, sum-sub, sum-scale}
 use Rattle.theory.proofs.Bound.{lap, keep, size, Way, spread, by-way, ≤ℤ-trans}
 
@@ -48,21 +48,6 @@ pub total-le : (n : ℕ) (f g : ℕ → ℕ) → ((i : ℕ) → i < n → f i �
 unfolding total
 total-le zero f g h = omega arith
 total-le (suc n) f g h = omega (arith, total-le n f g (λ i l. h i (omega arith)), h n (omega arith))
-
--- ---- sizes
-pub abs-parts : (z : ℤ) → natAbs z ≡ P z + M z
-abs-parts (pos n) = omega arith
-abs-parts (negsuc n) = omega arith
-
-pub abs-neg : (z : ℤ) → natAbs (neg z) ≡ natAbs z
-abs-neg z = omega (arith, abs-parts z, abs-parts (neg z), neg-parts z .0, neg-parts z .1)
-
-pub abs-times : (m : ℕ) (z : ℤ) → natAbs (pos m *ᶻ z) ≡ m * natAbs z
-abs-times m z = abs-parts (pos m *ᶻ z) ∙ omega (arith, mul-pos-parts m z .0, mul-pos-parts m z .1, ap (λ t. m * t) (abs-parts z))
-
-pub abs-le : (z : ℤ) (b : ℕ) → z ≤ℤ pos b → neg z ≤ℤ pos b → natAbs z ≤ b
-abs-le (pos n) b h k = omega (arith, le-parts h)
-abs-le (negsuc n) b h k = omega (arith, le-parts k, neg-parts (negsuc n) .0, neg-parts (negsuc n) .1)
 
 -- ---- the operator is linear
 pub lap-lin : (n : ℕ) (w : ℕ → ℕ → ℕ) (m : ℕ) (u v : ℕ → ℤ) (i : ℕ) → lap n w (λ i. pos m *ᶻ u i -ᶻ v i) i ≡ pos m *ᶻ lap n w u i -ᶻ lap n w v i
