@@ -5,6 +5,7 @@
  *   airway [--room N]            one session on standard input
  *   airway [--room N] --frames   many sessions, each behind a line bytes=N
  *   airway --piece NAME          one part of the method, see README.md
+ *   airway --reread              reader, writer and walks by themselves, see README.md
  *
  * Build with -ffp-contract=off: each operation rounds once.
  */
@@ -606,23 +607,121 @@ static void keep_header(const Header *header, Session *session)
     session->rounds = header->rounds;
 }
 
-/* "Reading checks 10, 1, 11, 2, 3, 4, 5"; the program's 2 comes before 11. */
+/* Answers 10 and 1, with which every reading begins. */
+static Answer take_head(Input *in, Header *header, Session *session)
+{
+    int line = take_header(in, header);
+    if (line != 0)
+        return refusal(10, line);
+    if (!side_in_range(header->nx) || !side_in_range(header->ny) || !side_in_range(header->nz))
+        return refusal(1, 0);
+    keep_header(header, session);
+    return refusal(0, 0);
+}
+
+static bool body_fits(const Input *in, const Session *session)
+{
+    return in->length - in->at == 5 * (size_t)session->cells;
+}
+
+/* Answers 3, 4 and 5, with which every reading ends. */
+static Answer take_rest(const Input *in, const Header *header, Session *session)
+{
+    if (!settings_in_range(header))
+        return refusal(3, 0);
+    return take_body(in->bytes + in->at, session);
+}
+
+/* The program's reading: more cells than it has room for is 2, before 11. */
 static Answer read_session(Input in, long room, Session *session)
 {
     Header header = {0};
-    int line = take_header(&in, &header);
-    if (line != 0)
-        return refusal(10, line);
-    if (!side_in_range(header.nx) || !side_in_range(header.ny) || !side_in_range(header.nz))
-        return refusal(1, 0);
-    keep_header(&header, session);
+    Answer answer = take_head(&in, &header, session);
+    if (answer.number != 0)
+        return answer;
     if (session->cells > room)
         return refusal(2, 0);
-    if (in.length - in.at != 5 * (size_t)session->cells)
+    if (!body_fits(&in, session))
         return refusal(11, 0);
-    if (!settings_in_range(&header))
+    return take_rest(&in, &header, session);
+}
+
+/* "Reading checks 10, 1, 11, 2, 3, 4, 5": 2 where fewer values are lent than cells. */
+static Answer read_lent(Input in, long lent, Session *session)
+{
+    Header header = {0};
+    Answer answer = take_head(&in, &header, session);
+    if (answer.number != 0)
+        return answer;
+    if (!body_fits(&in, session))
+        return refusal(11, 0);
+    if (session->cells > lent)
+        return refusal(2, 0);
+    return take_rest(&in, &header, session);
+}
+
+/* ------------------------------------------------------------------ */
+/* Writing                                                            */
+
+/* What a writer is handed: labels and values with their own counts, and an output. */
+typedef struct {
+    Header header;
+    const unsigned char *labels;
+    size_t label_count;
+    const int64_t *values;
+    size_t value_count;
+    unsigned char *output;
+    size_t output_size;
+} Writing;
+
+static size_t header_text(const Header *h, char text[MAX_HEADER + 1])
+{
+    return (size_t)snprintf(text, MAX_HEADER + 1,
+        "nx=%ld\nny=%ld\nnz=%ld\norder=%s\ntolerance=%ld\nlevels=%ld\nrounds=%ld\n",
+        h->nx, h->ny, h->nz, h->big ? "big" : "little", h->tolerance, h->levels, h->rounds);
+}
+
+static void put_value(unsigned char *four, int64_t value, bool big)
+{
+    uint32_t word = (uint32_t)(value < 0 ? value + INT64_C(4294967296) : value);
+    for (int n = 0; n < 4; n++)
+        four[big ? 3 - n : n] = (unsigned char)(word >> (8 * n) & 255);
+}
+
+/* Answers 4 and 5 of what is to be written. */
+static Answer check_content(const Writing *w, size_t cells)
+{
+    for (size_t cell = 0; cell < cells; cell++)
+        if (w->labels[cell] > WALL)
+            return refusal(4, (long)cell);
+    for (size_t cell = 0; cell < cells; cell++)
+        if (!value_in_range(w->labels[cell], w->values[cell]))
+            return refusal(5, (long)cell);
+    return refusal(0, 0);
+}
+
+/* "Writing checks 1, 3, 2, 4, 5"; count is the bytes written, 0 on a refusal. */
+static Answer write_session(const Writing *w, size_t *count)
+{
+    char text[MAX_HEADER + 1];
+    const Header *h = &w->header;
+    *count = 0;
+    if (!side_in_range(h->nx) || !side_in_range(h->ny) || !side_in_range(h->nz))
+        return refusal(1, 0);
+    if (!settings_in_range(h))
         return refusal(3, 0);
-    return take_body(in.bytes + in.at, session);
+    size_t cells = (size_t)(h->nx * h->ny * h->nz), head = header_text(h, text);
+    if (w->label_count != cells || w->value_count != cells || w->output_size < head + 5 * cells)
+        return refusal(2, 0);
+    Answer answer = check_content(w, cells);
+    if (answer.number != 0)
+        return answer;
+    memcpy(w->output, text, head);
+    memcpy(w->output + head, w->labels, cells);
+    for (size_t cell = 0; cell < cells; cell++)
+        put_value(w->output + head + cells + 4 * cell, w->values[cell], h->big);
+    *count = head + 5 * cells;
+    return answer;
 }
 
 /* ------------------------------------------------------------------ */
@@ -848,6 +947,130 @@ static int run_frames(long room)
         printf("session=%ld\n", number);
         answer_session(length, room);
     }
+}
+
+/* ------------------------------------------------------------------ */
+/* Reader, writer and walks by themselves, for comparing              */
+
+static unsigned char written_bytes[MAX_SESSION];
+
+static void print_hex(const char *key, const unsigned char *bytes, size_t count)
+{
+    printf("%s=", key);
+    for (size_t n = 0; n < count; n++)
+        printf("%02x", bytes[n]);
+    putchar('\n');
+}
+
+/* What is handed back with the reader's answer: zeros, big and nothing on a refusal. */
+static void print_header(const Session *s)
+{
+    printf("nx=%d\nny=%d\nnz=%d\norder=%s\n", s->nx, s->ny, s->nz, s->big ? "big" : "little");
+    printf("tolerance=%ld\nlevels=%ld\nrounds=%ld\n", s->tolerance, s->levels, s->rounds);
+    printf("labels=%d\n", s->cells);
+}
+
+static void print_written(const char *key, const Session *s, bool big)
+{
+    Writing w = {{s->nx, s->ny, s->nz, s->tolerance, s->levels, s->rounds, big},
+                 s->labels, (size_t)s->cells, s->values, (size_t)s->cells, written_bytes, MAX_SESSION};
+    size_t count = 0;
+    write_session(&w, &count);
+    print_hex(key, written_bytes, count);
+}
+
+static void print_walks(const Session *s)
+{
+    make_level(&level[0], s->nx, s->ny, s->nz, s->labels);
+    Walks walks = walk_the_air(&level[0]);
+    if (walks.sealed != OUTSIDE)
+        printf("sealed=%d\n", walks.sealed);
+    else
+        printf("depth=%ld\n", walks.depth);
+}
+
+static void reread_session(size_t length)
+{
+    static Session session;
+    Input in = {session_bytes, length, 0};
+    Answer answer = read_lent(in, MAX_CELLS, &session);
+    printf("answer=%d\nplace=%ld\n", answer.number, answer.place);
+    if (answer.number != 0) {
+        Session none = {.big = true};
+        print_header(&none);
+        return;
+    }
+    print_header(&session);
+    for (int cell = 0; cell < session.cells; cell++)
+        printf("label=%d\n", session.labels[cell]);
+    for (int cell = 0; cell < session.cells; cell++)
+        printf("value=%" PRId64 "\n", session.values[cell]);
+    print_written("big", &session, true);
+    print_written("little", &session, false);
+    print_walks(&session);
+}
+
+/* Direct calls of the writer on a line of cells: nx, tolerance, the counts of labels, values and output, the label and the
+   value of cell 1, and the order (0 big). */
+static const long writer_calls[][8] = {
+    {3, 4, 3, 3, 70, 0, 0, 0}, {3, 4, 3, 3, 69, 0, 0, 0}, {3, 4, 3, 3, 90, 0, 0, 0},
+    {3, 4, 3, 3, 73, 0, 0, 1}, {3, 4, 3, 3, 72, 0, 0, 1}, {0, 4, 3, 3, 90, 0, 0, 0},
+    {33, 4, 3, 3, 90, 0, 0, 0}, {3, 1000001, 3, 3, 90, 0, 0, 0}, {3, 4, 2, 3, 90, 0, 0, 0},
+    {3, 4, 4, 3, 90, 0, 0, 0}, {3, 4, 3, 2, 90, 0, 0, 0}, {3, 4, 3, 4, 90, 0, 0, 0},
+    {3, 4, 3, 3, 90, 7, 0, 0}, {3, 4, 3, 3, 90, 0, 1001, 0}, {3, 4, 3, 3, 90, 7, 1001, 0},
+    {0, 1000001, 3, 3, 90, 0, 0, 0}, {3, 1000001, 2, 3, 90, 0, 0, 0}, {3, 4, 3, 3, 10, 7, 0, 0},
+    {3, 4, 3, 3, 0, 0, 0, 0}, {4, 4, 3, 3, 90, 0, 0, 0}, {2, 4, 3, 3, 90, 0, 0, 0},
+    {3, 4, 3, 3, 90, 2, 1, 0}, {3, 4, 3, 3, 90, 1, 1000001, 0}, {3, 4, 0, 0, 90, 0, 0, 0},
+};
+
+static void call_writer(const long *call)
+{
+    unsigned char labels[4] = {OPENING, (unsigned char)call[5], OPENING, WALL}, output[90];
+    int64_t values[4] = {10, call[6], 20, 0};
+    memset(output, 9, sizeof output);
+    Writing w = {{call[0], 1, 1, call[1], 1, 5, call[7] == 0}, labels, (size_t)call[2], values, (size_t)call[3], output, (size_t)call[4]};
+    size_t count = 0;
+    Answer answer = write_session(&w, &count);
+    printf("answer=%d\nplace=%ld\ncount=%zu\n", answer.number, answer.place, count);
+    print_hex("output", output, (size_t)call[4]);
+}
+
+/* Direct calls of the reader on the first call's bytes, with 0 to 5 values lent, each 7 before. */
+static void call_reader(long lent)
+{
+    static Session session;
+    const unsigned char labels[3] = {OPENING, AIR, OPENING};
+    const int64_t values[3] = {10, 0, 20};
+    Writing w = {{3, 1, 1, 4, 1, 5, true}, labels, 3, values, 3, written_bytes, MAX_SESSION};
+    size_t count = 0;
+    write_session(&w, &count);
+    Input in = {written_bytes, count, 0};
+    Answer answer = read_lent(in, lent, &session);
+    printf("answer=%d\nplace=%ld\n", answer.number, answer.place);
+    for (long n = 0; n < lent; n++)
+        printf("value=%" PRId64 "\n", answer.number == 0 && n < session.cells ? session.values[n] : INT64_C(7));
+}
+
+/* Frames here have a length of four bytes, most significant first; then the direct calls. */
+static int run_reread(void)
+{
+    unsigned char four[4];
+    for (long number = 0; fread(four, 1, 4, stdin) == 4; number++) {
+        size_t size = (size_t)four[0] << 24 | (size_t)four[1] << 16 | (size_t)four[2] << 8 | four[3];
+        if (size > MAX_SESSION || fread(session_bytes, 1, size, stdin) != size)
+            return 1;
+        printf("session=%ld\n", number);
+        reread_session(size);
+    }
+    for (size_t n = 0; n < sizeof writer_calls / sizeof *writer_calls; n++) {
+        printf("writer=%zu\n", n);
+        call_writer(writer_calls[n]);
+    }
+    for (long lent = 0; lent < 6; lent++) {
+        printf("reader=%ld\n", lent);
+        call_reader(lent);
+    }
+    return 0;
 }
 
 /* ------------------------------------------------------------------ */
@@ -1114,7 +1337,7 @@ static int run_piece(const Piece *piece)
 
 typedef struct {
     long room;
-    bool frames;
+    bool frames, reread;
     const Piece *piece;
 } Options;
 
@@ -1137,6 +1360,8 @@ static bool read_options(int count, char **argument, Options *options)
     for (int n = 1; n < count; n++) {
         if (strcmp(argument[n], "--frames") == 0) {
             options->frames = true;
+        } else if (strcmp(argument[n], "--reread") == 0) {
+            options->reread = true;
         } else if (strcmp(argument[n], "--room") == 0 && n + 1 < count) {
             if (!whole_argument(argument[++n], &options->room))
                 return false;
@@ -1155,10 +1380,11 @@ int main(int count, char **argument)
 {
     Options options = {.room = PROGRAM_ROOM};
     if (!read_options(count, argument, &options)) {
-        fputs("usage: airway [--room N] [--frames] | --piece NAME\n", stderr);
+        fputs("usage: airway [--room N] [--frames] | --piece NAME | --reread\n", stderr);
         return 2;
     }
     int status = options.piece != NULL ? run_piece(options.piece)
+               : options.reread ? run_reread()
                : options.frames ? run_frames(options.room)
                : run_session(options.room);
     return fflush(stdout) == 0 && !ferror(stdout) ? status : 1;

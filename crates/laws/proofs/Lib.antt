@@ -1,4 +1,5 @@
 -- Laws, each once.
+pub mod Loops
 pub mod Table
 pub mod Bools
 pub mod Naturals

@@ -56,7 +56,7 @@ module _ (a b d c : ℕ) (l : c < a * (b * d)) where
   b-pos : 0 < b
   b-pos = some-left (c / a) b d above
 
-  top : c / (a * b) < d
+  pub top : c / (a * b) < d
   top = div-lt-iff-lt-mul (mul-pos a-pos b-pos) .1 (omega arith)
 
   digits : c / 1 % a + a * (c / a % b + b * (c / (a * b) % d)) ≡ c
