@@ -1,15 +1,17 @@
--- Laws of `tab` and `any`. Assumes nothing.
-use mathlib.Core.Path.{_≡_, refl, ap, ap₂}
+-- Laws of `tab`, `any` and `over`. Assumes nothing.
+use mathlib.Core.Path.{_≡_, refl, sym, ap, ap₂, _∙_}
 use mathlib.Core.Logic.{⊎-elim}
-use mathlib.Core.Bool.{Bool, true, false, _||_, false≢true}
+use mathlib.Core.Bool.{Bool, true, false, _||_, cond, false≢true}
 use mathlib.Core.List.{List, [], _∷_, map, List·Memᴰ, List·Memᴰ·head, List·Memᴰ·tail}
 use Prim.Native.Nat.{ℕ, zero, suc, _<_}
 use native.Mathlib.Nat.{not-suc-le-zero, le-of-suc-le-suc}
 use native.Mathlib.Omega.{arith}
 use lib.Dec.{T}
 use lib.ListN.{length, getD}
-use Rattle.laws.specs.Lists.{tab, any}
+use Rattle.laws.specs.Loops.{up}
+use Rattle.laws.specs.Lists.{tab, any, over}
 use Rattle.laws.proofs.Bools.{or-cases, or-l, or-r}
+use Rattle.laws.proofs.Loops.{up-first}
 
 module _ {A : Type 0} where
   pub length-tab : (n : ℕ) (f : ℕ → A) → length (tab n f) ≡ n
@@ -22,6 +24,12 @@ module _ {A : Type 0} where
   getD-tab zero f i d h = absurd (not-suc-le-zero h)
   getD-tab (suc n) f zero d h = refl
   getD-tab (suc n) f (suc i) d h = getD-tab n (λ k. f (suc k)) i d (le-of-suc-le-suc h)
+
+  -- inside a list the default is not read
+  pub getD-any : (l : List A) (i : ℕ) (d e : A) → i < length l → getD l i d ≡ getD l i e
+  getD-any [] i d e h = absurd (not-suc-le-zero h)
+  getD-any (a ∷ l) zero d e h = refl
+  getD-any (a ∷ l) (suc i) d e h = getD-any l i d e (le-of-suc-le-suc h)
 
   -- `any` finds an element, and any element that passes is found
   pub any-some : (f : A → Bool) (l : List A) → T (any f l) → (x : A) × List·Memᴰ x l × T (f x)
@@ -41,6 +49,15 @@ module _ {A : Type 0} where
   unfolding any
   any-cong f g [] h = refl
   any-cong f g (a ∷ l) h = ap₂ _||_ (h a) (any-cong f g l h)
+
+-- ---- `over` a list is a loop that reads the list by its index
+pub over-up : {A B : Type 0} (test : A → Bool) (f : A → B → B) (l : List A) (d : A) (b : B)
+    → over test f l b ≡ up (λ i s. cond (test (getD l i d)) (f (getD l i d) s) s) (length l) b
+unfolding over up
+over-up test f [] d b = refl
+over-up test f (a ∷ l) d b =
+    over-up test f l d (cond (test a) (f a b) b)
+    ∙ sym (up-first (λ i s. cond (test (getD (a ∷ l) i d)) (f (getD (a ∷ l) i d) s) s) (length l) b)
 
 -- ---- a test that some element of a tab passes
 pub some-of : {A B : Type 0} (p : B → Bool) (g : A → B) (n : ℕ) (f : ℕ → A) → any p (map g (tab n f)) ≡ true → (t : ℕ) × (t < n) × (p (g (f t)) ≡ true)

@@ -1,9 +1,8 @@
 -- The laws of a loop whose body is a step: where it begins, after a turn, and where it ends. Assumes nothing.
 use Prim.Native.Nat.{ℕ, zero, suc, _+_, _-_, _≤_, _<_}
-use mathlib.Core.Path.{_≡_, refl, sym, ap, subst, _∙_}
+use mathlib.Core.Path.{_≡_, refl, sym, ap, _∙_}
 use native.Mathlib.Numerals.{add-one, sub-one}
 use native.Mathlib.Nat.{not-suc-le-zero, le-antisymm}
-use native.Mathlib.Omega.{arith}
 use borrow.Author.Needs.{needs}
 use borrow.Author.Tests.{eq-eqb, ne-eqb, lt-ltb, le-ltb, le-leb, lt-leb}
 use Rattle.laws.specs.Loops.{up, down}
@@ -25,7 +24,7 @@ module _ {A : Type 0} where
   pub up-end : {f : ℕ → A → A} {s₀ s : A} {i : ℕ} (n : ℕ) → Up f s₀ i s → i ≤ n → n ≤ i → s ≡ up f n s₀
   up-end {f} {s₀} {s} {i} n h a b = h .is ∙ ap (λ (k : ℕ). up f k s₀) (le-antisymm a b)
 
-  -- a descending loop that began at w₀ with n turns to do has i turns to do from s
+  -- a descending loop that began at s₀ with n turns to do has i turns to do from s
   pub record Down (f : ℕ → A → A) (n : ℕ) (s₀ : A) (i : ℕ) (s : A) : Type 0 where
     pub is : down f i s ≡ down f n s₀
 
@@ -44,6 +43,12 @@ module _ {A : Type 0} where
   unfolding down
   down-end {i = zero} p h = h .is
   down-end {i = suc i} p h = absurd (not-suc-le-zero p)
+
+  -- the first turn of an ascending loop, taken out
+  pub up-first : (f : ℕ → A → A) (n : ℕ) (s : A) → up f (suc n) s ≡ up (λ i. f (suc i)) n (f 0 s)
+  unfolding up
+  up-first f zero s = refl
+  up-first f (suc n) s = ap (f (suc n)) (up-first f n s)
 
 -- what closes the needs of a loop whose invariant has an `Up` or a `Down`
 pub ruleset ups = (needs, up-none, up-more, up-end)

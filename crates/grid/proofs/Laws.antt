@@ -1,0 +1,67 @@
+-- What the functions of this crate ask. Assumes nothing.
+use Prim.Native.Nat.{ℕ, _+_, _*_, _/_, _%_, _^_, _<_, _≤_}
+use mathlib.Core.Path.{_≡_, refl, sym, ap, _∙_}
+use native.Mathlib.Nat.{mul-le-mul, mod-eq-of-lt, div-one, div-div-eq-div-mul}
+use native.Mathlib.Omega.{arith}
+use Rattle.method.specs.declared.Sides.{Sides}
+use Rattle.method.specs.Cast.{cells}
+use Rattle.method.specs.Cast.{along}
+use Rattle.theory.proofs.Sides.{Fit, x-axis, y-axis, z-axis}
+use Rattle.theory.proofs.Numbers.{coordinates-in, top}
+use Rattle.grid.specs.Place.{SpotOf}
+use borrow.Author.Needs.{needs}
+use mir.Syntax.{w64}
+use mir.Val.{Fits}
+
+-- a product of numbers up to 32
+pub small-two : (a b : ℕ) → a ≤ 32 → b ≤ 32 → a * b ≤ 1024
+small-two a b h k = mul-le-mul h k
+
+pub small-three : (a b c : ℕ) → a ≤ 32 → b ≤ 32 → c ≤ 32 → a * (b * c) ≤ 32768
+small-three a b c h k l = mul-le-mul h (mul-le-mul k l)
+
+pub few-cells : (g : Sides) → Fit g → cells g ≤ 32768
+unfolding cells
+few-cells g f = small-three (g .nx) (g .ny) (g .nz) (f .nx-32) (f .ny-32) (f .nz-32)
+
+-- a cell's number from coordinates below 33
+below-33 : {b z : ℕ} → b ≤ 32 → z < 33 → b * z ≤ 1024
+below-33 h k = mul-le-mul h (le-pred k)
+  where
+    le-pred : {z : ℕ} → z < 33 → z ≤ 32
+    le-pred g = omega arith
+
+pub plane-fits : (b z : ℕ) → b ≤ 32 → z < 33 → Fits w64 (b * z)
+plane-fits b z h k = record { fits = omega (arith, below-33 h k) }
+
+pub row-fits : (y b z : ℕ) → y < 33 → b ≤ 32 → z < 33 → Fits w64 (y + b * z)
+row-fits y b z l h k = record { fits = omega (arith, below-33 h k) }
+
+rows : (a y b z : ℕ) → a ≤ 32 → y < 33 → b ≤ 32 → z < 33 → a * (y + b * z) ≤ 33824
+rows a y b z g l h k = mul-le-mul g (grown (below-33 h k))
+  where
+    grown : b * z ≤ 1024 → y + b * z ≤ 1057
+    grown e = omega arith
+
+pub box-fits : (a y b z : ℕ) → a ≤ 32 → y < 33 → b ≤ 32 → z < 33 → Fits w64 (a * (y + b * z))
+box-fits a y b z g l h k = record { fits = omega (arith, rows a y b z g l h k) }
+
+pub number-fits : (x a y b z : ℕ) → x < 33 → a ≤ 32 → y < 33 → b ≤ 32 → z < 33 → Fits w64 (x + a * (y + b * z))
+number-fits x a y b z f g l h k = record { fits = omega (arith, rows a y b z g l h k) }
+
+pub ruleset numbers = (needs, plane-fits, row-fits, box-fits, number-fits)
+
+-- the three coordinates
+pub spotted : (g : Sides) (c : ℕ) → c < cells g → SpotOf g c (record { x = c % g .nx; y = c / g .nx % g .ny; z = c / g .nx / g .ny })
+unfolding along cells
+spotted g c l =
+    let p = coordinates-in g c l in
+    let z-is : c / g .nx / g .ny ≡ along (z-axis g) c = sym (mod-eq-of-lt (top (g .nx) (g .ny) (g .nz) c l) ∙ sym (div-div-eq-div-mul c (g .nx) (g .ny))) in
+    record {
+      is-x = ap (λ k. k % g .nx) (sym (div-one c));
+      is-y = refl;
+      is-z = z-is;
+      in-x = rw (← div-one c) (p .in-x);
+      in-y = p .in-y;
+      in-z = rw z-is (p .in-z);
+    }

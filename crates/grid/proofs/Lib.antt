@@ -1,0 +1,4 @@
+-- Proofs.
+pub mod Laws
+pub mod Choices
+pub mod Steps

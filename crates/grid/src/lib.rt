@@ -1,0 +1,3 @@
+// The cast in code.
+pub mod near;
+pub mod place;
