@@ -20,10 +20,6 @@ small-two a b h k = mul-le-mul h k
 pub small-three : (a b c : ℕ) → a ≤ 32 → b ≤ 32 → c ≤ 32 → a * (b * c) ≤ 32768
 small-three a b c h k l = mul-le-mul h (mul-le-mul k l)
 
-pub few-cells : (g : Sides) → Fit g → cells g ≤ 32768
-unfolding cells
-few-cells g f = small-three (g .nx) (g .ny) (g .nz) (f .nx-32) (f .ny-32) (f .nz-32)
-
 -- a cell's number from coordinates below 33
 below-33 : {b z : ℕ} → b ≤ 32 → z < 33 → b * z ≤ 1024
 below-33 h k = mul-le-mul h (le-pred k)

@@ -63,15 +63,12 @@ module _ (g : Sides) (z : Fit g) where
   unfolding cells
   cells-most = mul-le-mul (z .nx-32) (mul-le-mul (z .ny-32) (z .nz-32))
 
-  -- what the steps along y and z ask
-  pub y-step : (c : ℕ) → c < cells g → (0 < g .nx) × ((0 < g .ny) × (c + g .nx < 2 ^ 64))
-  y-step c h = (z .nx-one, (z .ny-one, omega (arith, cells-most, z .nx-32)))
+  -- a step on along y or z does not wrap
+  pub y-near : (c : ℕ) → c < cells g → c + g .nx < 2 ^ 64
+  y-near c h = omega (arith, cells-most, z .nx-32)
 
-  pub z-back : (0 < g .nx * g .ny) × (0 < g .nz)
-  z-back = (plane-pos, z .nz-one)
-
-  pub z-step : (c : ℕ) → c < cells g → (0 < g .nx * g .ny) × ((0 < g .nz) × (c + g .nx * g .ny < 2 ^ 64))
-  z-step c h = (plane-pos, (z .nz-one, omega (arith, cells-most, plane-most)))
+  pub z-near : (c : ℕ) → c < cells g → c + g .nx * g .ny < 2 ^ 64
+  z-near c h = omega (arith, cells-most, plane-most)
 
 -- ---- the six cells
 pub around-is : (g : Sides) (n c : ℕ) {w e s r b a : ℕ} → n ≡ cells g
@@ -82,4 +79,4 @@ pub around-is : (g : Sides) (n c : ℕ) {w e s r b a : ℕ} → n ≡ cells g
 unfolding around beside axes
 around-is g n c {w} {e} {s} {r} {b} {a} h hw he hs hr hb ha = rw (← h, hw, he, hs, hr, hb, ha)
 
-pub ruleset steps = (needs, label-in, label-out, steps-back, stays-back, steps-on, stays-on, reaches-back, next-fits, plane-fits, y-step, z-back, z-step, around-is)
+pub ruleset steps = (needs, label-in, label-out, steps-back, stays-back, steps-on, stays-on, reaches-back, next-fits, plane-pos, plane-fits, y-near, z-near, around-is)
