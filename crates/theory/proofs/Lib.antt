@@ -22,3 +22,7 @@ pub mod Sizes
 pub mod Places
 pub mod Children
 pub mod Kept
+pub mod Digits
+pub mod Bytes
+pub mod Lines
+pub mod RoundTrip

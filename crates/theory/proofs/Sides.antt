@@ -22,7 +22,7 @@ from : (lo hi x : ℕ) → T (between lo hi x) → lo ≤ x
 unfolding between
 from lo hi x t = leb→le lo x (and-l (leb lo x) (leb x hi) t)
 
-to : (lo hi x : ℕ) → T (between lo hi x) → x ≤ hi
+pub to : (lo hi x : ℕ) → T (between lo hi x) → x ≤ hi
 unfolding between
 to lo hi x t = leb→le x hi (and-r (leb lo x) (leb x hi) t)
 

@@ -47,3 +47,26 @@ pub no-fault′ : (b : Bool) → fault b ≡ Nowhere → b ≡ false
 unfolding fault
 no-fault′ true e = absurd (never e refl)
 no-fault′ false e = refl
+
+-- ---- and back: a verdict passes exactly if every check does
+pub not-passed : {num place : ℕ} {v : Verdict} → v ≡ passed → v ≡ refused num place → ⊥
+not-passed p q = let z : _≡_ {A = ℕ} 0 1 = cc in omega arith
+
+pub all-pass : {A : Type 0} (cs : List (Check A)) (a : A) → verdict cs a ≡ passed → AllPass cs a
+all-pass cs a e = go (judge cs a)
+  where
+    go : Judged cs a → AllPass cs a
+    go (fine v p) = p
+    go (faulty num place v f) = absurd (not-passed e v)
+
+pub pass-all : {A : Type 0} (cs : List (Check A)) (a : A) → AllPass cs a → verdict cs a ≡ passed
+unfolding verdict
+pass-all [] a p = refl
+pass-all {A} (c ∷ cs) a p = ap after (p .0) ∙ pass-all cs a (p .1)
+  where
+    after : Found → Verdict
+    after f = elim f [ At place ↦ refused (c .number) place | Nowhere ↦ verdict cs a ]
+
+pub no-fault-in : (b : Bool) → b ≡ true → fault (not b) ≡ Nowhere
+unfolding fault
+no-fault-in b e = ap (λ t. fault (not t)) e

@@ -3,3 +3,4 @@ pub mod Walks
 pub mod Exact
 pub mod Answered
 pub mod Levels
+pub mod Sessions
