@@ -1,5 +1,5 @@
 -- Laws of module `near`: a label inside and outside, a step along an axis as the code tests it, the six cells. Assumes nothing.
-use mathlib.Core.Path.{_≡_, refl, sym, ap, ap₂, _∙_}
+use mathlib.Core.Path.{_≡_, refl, sym}
 use mathlib.Core.List.{List, [], _∷_}
 use Prim.Native.Nat.{ℕ, _+_, _-_, _*_, _/_, _%_, _^_, _≤_, _<_}
 use native.Mathlib.Nat.{mul-le-mul, mul-pos, mod-lt}
@@ -78,5 +78,9 @@ pub around-is : (g : Sides) (n c : ℕ) {w e s r b a : ℕ} → n ≡ cells g
     → w ∷ e ∷ s ∷ r ∷ b ∷ a ∷ [] ≡ around g c
 unfolding around beside axes
 around-is g n c {w} {e} {s} {r} {b} {a} h hw he hs hr hb ha = rw (← h, hw, he, hs, hr, hb, ha)
+
+pub around-six : (g : Sides) (c : ℕ) → length (around g c) ≡ 6
+unfolding around beside axes
+around-six g c = refl
 
 pub ruleset steps = (needs, label-in, label-out, steps-back, stays-back, steps-on, stays-on, reaches-back, next-fits, plane-pos, plane-fits, y-near, z-near, around-is)

@@ -12,7 +12,7 @@ pub fn label_at(labels: &[u8], j: usize) -> u8
 }
 
 // One step back along an axis, or n where there is none.
-fn step_back(n: usize, stride: usize, side: usize, c: usize) -> usize
+pub fn step_back(n: usize, stride: usize, side: usize, c: usize) -> usize
     requires { ⌜ (0 < stride) × (0 < side) ⌝ }
     ensures { λ r. ⌜ r ≡ back n (record { stride = stride; side = side }) c ⌝ }
 {
@@ -20,7 +20,7 @@ fn step_back(n: usize, stride: usize, side: usize, c: usize) -> usize
 }
 
 // One step on.
-fn step_on(n: usize, stride: usize, side: usize, c: usize) -> usize
+pub fn step_on(n: usize, stride: usize, side: usize, c: usize) -> usize
     requires { ⌜ (0 < stride) × ((0 < side) × (c + stride < 2 ^ 64)) ⌝ }
     ensures { λ r. ⌜ r ≡ on n (record { stride = stride; side = side }) c ⌝ }
 {

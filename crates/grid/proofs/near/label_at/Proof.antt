@@ -1,4 +1,4 @@
--- `ticks::near::label_at` meets its contract. Assumes nothing.
+-- `grid::near::label_at` meets its contract. Assumes nothing.
 use Rattle.grid.proofs.Steps.{steps}
 use Rattle.grid.proofs.near.label_at.Statement.{statement}
 use Rattle.grid.proofs.near.label_at.Tie as tie

@@ -1,4 +1,4 @@
--- `ticks::near::neighbours` meets its contract, by the contracts of the steps. Assumes nothing.
+-- `grid::near::neighbours` meets its contract, by the contracts of the steps. Assumes nothing.
 use borrow.Author.Needs.{needs}
 use Rattle.grid.proofs.Steps.{steps}
 use Rattle.grid.proofs.near.neighbours.Statement.{statement}

@@ -1,4 +1,4 @@
--- `ticks::near::step_back` meets its contract, by its test. Assumes nothing.
+-- `grid::near::step_back` meets its contract, by its test. Assumes nothing.
 use Rattle.grid.proofs.Steps.{steps}
 use Rattle.grid.proofs.near.step_back.Statement.{statement}
 use Rattle.grid.proofs.near.step_back.Tie as tie

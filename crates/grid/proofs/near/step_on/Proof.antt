@@ -1,4 +1,4 @@
--- `ticks::near::step_on` meets its contract, by its test. Assumes nothing.
+-- `grid::near::step_on` meets its contract, by its test. Assumes nothing.
 use Rattle.grid.proofs.Steps.{steps}
 use Rattle.grid.proofs.near.step_on.Statement.{statement}
 use Rattle.grid.proofs.near.step_on.Tie as tie

@@ -1,0 +1,54 @@
+-- `ticks::gather` meets its contract: after i turns the count and the sum are those of the first i cells. Assumes nothing.
+use Prim.Native.Nat.{_≤_, _-_}
+use Rattle.ticks.proofs.Laws.{Gathering, walks}
+use Rattle.ticks.proofs.gather.Statement.{statement}
+use Rattle.ticks.proofs.gather.Tie as tie
+
+abbrev Inv-loop : tie.InvT-loop
+Inv-loop labels p c around a₀ i₀ a i = (i ≤ 6) × Gathering labels p around i a
+
+abbrev μ-loop : tie.MeasureT-loop
+μ-loop labels p c around a₀ i₀ a i = 6 - i
+
+neighbours-requires : tie.Need-neighbours-requires Inv-loop μ-loop
+neighbours-requires c κs = search walks
+
+loop-holds : tie.Need-loop-holds Inv-loop μ-loop
+loop-holds c = search walks
+
+mul-visit : tie.Need-mul-visit Inv-loop μ-loop
+mul-visit c = search walks
+
+array-read-visit : tie.Need-array-read-visit Inv-loop μ-loop
+array-read-visit c = search walks
+
+visit-requires : tie.Need-visit-requires Inv-loop μ-loop
+visit-requires c κs = search walks
+
+add-i : tie.Need-add-i Inv-loop μ-loop
+add-i c = search walks
+
+loop-less : tie.Need-loop-less Inv-loop μ-loop
+loop-less c = search walks
+
+loop-again : tie.Need-loop-again Inv-loop μ-loop
+loop-again c = search walks
+
+returns : tie.Need-returns Inv-loop μ-loop
+returns c = search walks
+
+pub gather-spec : {M : Type 1} → statement M
+gather-spec =
+    tie.close
+    (tie.spec
+    Inv-loop
+    μ-loop
+    neighbours-requires
+    loop-holds
+    mul-visit
+    array-read-visit
+    visit-requires
+    add-i
+    loop-less
+    loop-again
+    returns)

@@ -1,0 +1,5 @@
+-- The definitions that the crate's contracts cite.
+pub mod Ready
+pub mod Faces
+pub mod Worst
+pub mod TickSize

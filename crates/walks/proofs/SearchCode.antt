@@ -1,0 +1,338 @@
+-- What the branches and loops of the search's code come to. Assumes nothing.
+use Prim.Native.Nat.{ℕ, zero, suc, _+_, _-_, _*_, _/_, _%_, _<_, _≤_, max}
+use mathlib.Core.Path.{_≡_, refl, sym, ap, ap₂, subst, _∙_}
+use mathlib.Core.Logic.{⊎-elim}
+use mathlib.Core.Bool.{Bool, true, false, cond, _&&_}
+use mathlib.Core.List.{List, [], _∷_}
+use native.Mathlib.Nat.{mul-pos, mul-le-mul, le-antisymm, not-suc-le-zero, le-of-suc-le-suc, eq-or-lt-of-le}
+use native.Mathlib.Numerals.{add-one}
+use native.Mathlib.Omega.{arith}
+use lib.Dec.{T, T-not, eqb}
+use lib.ListN.{length, getD, length-set, List·getD-eq-default}
+use lib.Seq.{getD-set-same, getD-set-other}
+use mir.Syntax.{w64}
+use mir.Val.{Fits}
+use borrow.Author.Needs.{needs}
+use borrow.Author.Tests.{eq-eqb, ne-eqb, lt-ltb, le-ltb}
+use Rattle.laws.specs.Loops.{up}
+use Rattle.laws.specs.Lists.{over}
+use Rattle.laws.proofs.Bools.{so, so-not}
+use Rattle.laws.proofs.Naturals.{le-or-lt}
+use Rattle.method.specs.declared.Sides.{Sides}
+use Rattle.method.specs.declared.Found.the-variants.{Nowhere, At}
+use Rattle.method.specs.Cast.{Axis, cells, axes, along, labelAt, isAir, isOpening, back, on, beside, around, first}
+use Rattle.theory.proofs.Sides.{Fit, x-axis, y-axis, z-axis}
+use Rattle.theory.proofs.Neighbours.{back-yes, back-no, back-far, on-yes, on-no}
+use Rattle.theory.proofs.Counting.{count-le}
+use Rattle.theory.proofs.Firsts.{Search, found, none, search-first}
+use Rattle.walks.specs.Search.{Queue, queue, mark, entry, reach, reachAll, sideways, turn, start, cleared, started, searched, deeper, lost, Safe, Moved, Reaches, Held, Roomy}
+use Rattle.walks.proofs.SearchSafe.{moved-put, moved-keep, place-in}
+
+-- ---- a loop whose body is a step
+module _ {A : Type 0} where
+  pub record Up (f : ℕ → A → A) (s₀ : A) (i : ℕ) (s : A) : Type 0 where
+    pub is : s ≡ up f i s₀
+
+  pub up-none : {f : ℕ → A → A} {s : A} → Up f s 0 s
+  unfolding up
+  up-none = record { is = refl }
+
+  pub up-more : {f : ℕ → A → A} {s₀ s t : A} {i : ℕ} → Up f s₀ i s → t ≡ f i s → Up f s₀ (i + 1) t
+  unfolding up
+  up-more {f} {s₀} {s} {t} {i} h e = record { is = rw add-one (e ∙ ap (f i) (h .is)) }
+
+  pub up-end : {f : ℕ → A → A} {s₀ s : A} {i : ℕ} (n : ℕ) → Up f s₀ i s → i ≤ n → n ≤ i → s ≡ up f n s₀
+  up-end {f} {s₀} {s} {i} n h a b = h .is ∙ ap (λ (k : ℕ). up f k s₀) (le-antisymm a b)
+
+-- ---- neighbours
+module _ (n stride side c : ℕ) where
+  pub code-back : 0 < c / stride % side → c - stride ≡ back n (record { stride = stride; side = side }) c
+  unfolding along
+  code-back h = sym (back-yes n (record { stride = stride; side = side }) c h)
+
+  pub code-back-no : c / stride % side ≤ 0 → n ≡ back n (record { stride = stride; side = side }) c
+  unfolding along
+  code-back-no h = sym (back-no n (record { stride = stride; side = side }) c h)
+
+  pub code-far : 0 < c / stride % side → stride ≤ c
+  unfolding along
+  code-far h = back-far (record { stride = stride; side = side }) c h
+
+  pub code-on : c / stride % side + 1 < side → c + stride ≡ on n (record { stride = stride; side = side }) c
+  unfolding along
+  code-on h = sym (on-yes n (record { stride = stride; side = side }) c h)
+
+  pub code-on-no : side ≤ c / stride % side + 1 → n ≡ on n (record { stride = stride; side = side }) c
+  unfolding along
+  code-on-no h = sym (on-no n (record { stride = stride; side = side }) c h)
+
+pub ruleset neighbours = (needs, code-back, code-back-no, code-far, code-on, code-on-no)
+
+-- ---- labels
+getD-any : (l : List ℕ) (j d e : ℕ) → j < length l → getD l j d ≡ getD l j e
+getD-any [] j d e h = absurd (not-suc-le-zero h)
+getD-any (x ∷ l) zero d e h = refl
+getD-any (x ∷ l) (suc j) d e h = getD-any l j d e (le-of-suc-le-suc h)
+
+module _ (ls : List ℕ) (j : ℕ) where
+  air-yes : j < length ls → getD ls j 0 ≡ 0 → isAir ls j ≡ true
+  unfolding isAir labelAt
+  air-yes l e = eq-eqb (getD ls j 2) 0 (getD-any ls j 2 0 l ∙ e)
+
+  air-no : j < length ls → (getD ls j 0 ≡ 0 → ⊥) → isAir ls j ≡ false
+  unfolding isAir labelAt
+  air-no l e = ne-eqb (getD ls j 2) 0 (λ z. e (getD-any ls j 0 2 l ∙ z))
+
+  air-out : length ls ≤ j → isAir ls j ≡ false
+  unfolding isAir labelAt
+  air-out l = ne-eqb (getD ls j 2) 0 (λ z. omega (arith, List·getD-eq-default ls 2 {n = j} l))
+
+  open-yes : j < length ls → getD ls j 0 ≡ 1 → isOpening ls j ≡ true
+  unfolding isOpening labelAt
+  open-yes l e = eq-eqb (getD ls j 2) 1 (getD-any ls j 2 0 l ∙ e)
+
+  open-no : j < length ls → (getD ls j 0 ≡ 1 → ⊥) → isOpening ls j ≡ false
+  unfolding isOpening labelAt
+  open-no l e = ne-eqb (getD ls j 2) 1 (λ z. e (getD-any ls j 0 2 l ∙ z))
+
+-- ---- what is moved
+at-want : {n : ℕ} {q want got : Queue} {want′ : Queue} → want ≡ want′ → Moved n q want got → Moved n q want′ got
+at-want e h = record { is = h .is ∙ e; safe = h .safe; grows = h .grows }
+
+stand : {n : ℕ} {q want : Queue} → Safe n q → q ≡ want → Moved n q want q
+stand s e = record { is = e; safe = s; grows = omega arith }
+
+-- a neighbour, by its label
+module _ (ls : List ℕ) (j m : ℕ) (q : Queue) where
+  one-air : isAir ls j ≡ true → reach (length ls) m j q ≡ reachAll (length ls) (isAir ls) m (j ∷ []) q
+  unfolding over
+  one-air e = sym (ap (λ b. cond b (reach (length ls) m j q) q) e)
+
+  one-not : isAir ls j ≡ false → q ≡ reachAll (length ls) (isAir ls) m (j ∷ []) q
+  unfolding over
+  one-not e = sym (ap (λ b. cond b (reach (length ls) m j q) q) e)
+
+  pub moved-air : (got : Queue) → j < length ls → getD ls j 0 ≡ 0 → Moved (length ls) q (reach (length ls) m j q) got
+      → Reaches ls m (j ∷ []) q got
+  moved-air got l e h = at-want (one-air (air-yes ls j l e)) h
+
+  pub moved-not : j < length ls → (getD ls j 0 ≡ 0 → ⊥) → Safe (length ls) q → Reaches ls m (j ∷ []) q q
+  moved-not l e s = stand s (one-not (air-no ls j l e))
+
+  pub moved-out : length ls ≤ j → Safe (length ls) q → Reaches ls m (j ∷ []) q q
+  moved-out l s = stand s (one-not (air-out ls j l))
+
+  pub moved-open : (got : Queue) → j < length ls → getD ls j 0 ≡ 1 → Moved (length ls) q (reach (length ls) 0 j q) got
+      → Moved (length ls) q (start (length ls) (isOpening ls) j q) got
+  unfolding start
+  moved-open got l e h = at-want (sym (ap (λ b. cond b (reach (length ls) 0 j q) q) (open-yes ls j l e))) h
+
+  pub moved-shut : j < length ls → (getD ls j 0 ≡ 1 → ⊥) → Safe (length ls) q → Moved (length ls) q (start (length ls) (isOpening ls) j q) q
+  unfolding start
+  moved-shut l e s = stand s (sym (ap (λ b. cond b (reach (length ls) 0 j q) q) (open-no ls j l e)))
+
+pub ruleset airs = (needs, moved-put, moved-keep, place-in, moved-air, moved-not, moved-out, moved-open, moved-shut)
+
+-- one after the other
+then : (n : ℕ) (air : ℕ → Bool) (m : ℕ) (js ks : List ℕ) (q p r : Queue) → Moved n q (reachAll n air m js q) p → Moved n p (reachAll n air m ks p) r
+    → Moved n q (reachAll n air m ks (reachAll n air m js q)) r
+then n air m js ks q p r a b = record { is = b .is ∙ ap (reachAll n air m ks) (a .is); safe = b .safe; grows = omega (arith, a .grows, b .grows) }
+
+pub moved-along : (n : ℕ) (air : ℕ → Bool) (m a b c : ℕ) (x : Axis) (q p r : Queue) → a ≡ back n x c → b ≡ on n x c
+    → Moved n q (reachAll n air m (a ∷ []) q) p → Moved n p (reachAll n air m (b ∷ []) p) r → Moved n q (reachAll n air m (sideways n x c) q) r
+unfolding over
+moved-along n air m a b c x q p r e f h k = at-want same (then n air m (a ∷ []) (b ∷ []) q p r h k)
+  where
+    same : reachAll n air m (b ∷ []) (reachAll n air m (a ∷ []) q) ≡ reachAll n air m (sideways n x c) q
+    same = ap₂ (λ a b. reachAll n air m (b ∷ []) (reachAll n air m (a ∷ []) q)) e f
+
+pub ruleset alongs = (needs, moved-along)
+
+-- ---- a box
+module _ (s : Sides) (f : Fit s) where
+  pub plane-pos : 0 < s .nx * s .ny
+  plane-pos = mul-pos (f .nx-one) (f .ny-one)
+
+  pub plane-small : s .nx * s .ny ≤ 1024
+  plane-small = mul-le-mul (f .nx-32) (f .ny-32)
+
+  pub plane-fits : Fits w64 (s .nx * s .ny)
+  plane-fits = omega (arith, plane-small)
+
+  pub cells-few : cells s ≤ 32768
+  unfolding cells
+  cells-few = mul-le-mul (f .nx-32) (mul-le-mul (f .ny-32) (f .nz-32))
+
+pub held-safe : (s : Sides) (ls : List ℕ) (q : Queue) → Held s ls q → Safe (length ls) q
+held-safe s ls q h = subst (λ n. Safe n q) (sym (h .sized)) (h .safe)
+
+six : (n : ℕ) (s : Sides) (air : ℕ → Bool) (m c : ℕ) (q : Queue) → n ≡ cells s →
+    reachAll n air m (sideways n (z-axis s) c)
+    (reachAll n air m (sideways n (y-axis s) c) (reachAll n air m (sideways n (x-axis s) c) q))
+    ≡ reachAll (cells s) air m (around s c) q
+unfolding over around axes beside
+six n s air m c q e = rw e
+
+pub moved-six : (s : Sides) (ls : List ℕ) (m c : ℕ) (q x y r : Queue) → length ls ≡ cells s
+    → Reaches ls m (sideways (length ls) (x-axis s) c) q x
+    → Reaches ls m (sideways (length ls) (y-axis s) c) x y
+    → Reaches ls m (sideways (length ls) (z-axis s) c) y r
+    → Moved (cells s) q (reachAll (cells s) (isAir ls) m (around s c) q) r
+moved-six s ls m c q x y r e a b d = record {
+  is = d .is ∙ ap (reachAll (length ls) (isAir ls) m (sideways (length ls) (z-axis s) c))
+      (b .is ∙ ap (reachAll (length ls) (isAir ls) m (sideways (length ls) (y-axis s) c)) (a .is)) ∙ six (length ls) s (isAir ls) m c q e;
+  safe = subst (λ n. Safe n r) e (d .safe);
+  grows = omega (arith, a .grows, b .grows, d .grows);
+}
+
+pub moved-safe : {n : ℕ} {q want got : Queue} → Moved n q want got → Safe n got
+moved-safe h = h .safe
+
+pub ruleset boxes = (needs, moved-safe, plane-pos, plane-small, plane-fits, held-safe, moved-six)
+
+-- ---- a turn
+module _ (s : Sides) (ls room : List ℕ) (head tail : ℕ) (h : Held s ls (queue room tail)) (l : head < tail) where
+  pub head-cell : getD room (length ls + head) 0 < cells s
+  head-cell = rw (h .sized) (h .safe .inside head l)
+
+  pub head-mark : getD room (getD room (length ls + head) 0) 0 ≤ tail
+  head-mark = h .safe .low (getD room (length ls + head) 0) head-cell
+
+  pub head-fits : Fits w64 (getD room (length ls + head) 0)
+  head-fits = omega (arith, head-cell, h .safe .few)
+
+  pub head-room : getD room (length ls + head) 0 < length room
+  head-room = omega (arith, head-cell, h .safe .long)
+
+  pub moved-head : (got : Queue)
+      → Moved (cells s) (queue room tail) (reachAll (cells s) (isAir ls) (getD room (getD room (length ls + head) 0) 0) (around s (getD room (length ls + head) 0)) (queue room tail)) got
+      → Moved (cells s) (queue room tail) (turn (cells s) (isAir ls) (around s) head (queue room tail)) got
+  unfolding turn
+  moved-head got k = at-want (ap (λ n. reachAll (cells s) (isAir ls) (getD room (getD room (n + head) 0) 0) (around s (getD room (n + head) 0)) (queue room tail)) (h .sized) ∙ sym (ap (λ b. cond b whole (queue room tail)) (lt-ltb head tail l))) k
+    where
+      whole : Queue
+      whole = reachAll (cells s) (isAir ls) (getD room (getD room (cells s + head) 0) 0) (around s (getD room (cells s + head) 0)) (queue room tail)
+
+pub moved-rest : (s : Sides) (ls : List ℕ) (head : ℕ) (q : Queue) → Held s ls q → q .tail ≤ head → Moved (cells s) q (turn (cells s) (isAir ls) (around s) head q) q
+unfolding turn
+moved-rest s ls head q h l = stand (h .safe) (sym (ap (λ b. cond b (reachAll (cells s) (isAir ls) (mark q (entry (cells s) q head)) (around s (entry (cells s) q head)) q) q) (le-ltb head (q .tail) l)))
+
+pub ruleset turns = (needs, head-cell, head-mark, head-fits, head-room, moved-head, moved-rest)
+
+-- ---- the loops
+pub held-again : (s : Sides) (ls : List ℕ) (q want got : Queue) → Held s ls q → Moved (cells s) q want got → Held s ls got
+held-again s ls q want got h m = record { fit = h .fit; sized = h .sized; safe = m .safe }
+
+pub up-cells : (s : Sides) (ls : List ℕ) (f : ℕ → Queue → Queue) (q p : Queue) (i : ℕ) → length ls ≡ cells s → Up f q i p → i ≤ length ls → length ls ≤ i → p ≡ up f (cells s) q
+up-cells s ls f q p i e h a b = up-end (cells s) h (omega arith) (omega arith)
+
+pub moved-more : (f : ℕ → Queue → Queue) (n i : ℕ) (q p r : Queue) → Up f q i p → Moved n p (f i p) r → Up f q (i + 1) r
+moved-more f n i q p r h m = up-more h (m .is)
+
+pub moved-end : (f : ℕ → Queue → Queue) (n i : ℕ) (room : List ℕ) (p : Queue) → Up f (queue room 0) i p → Safe n p → i ≤ n → n ≤ i → Moved n (queue room 0) (up f n (queue room 0)) p
+moved-end f n i room p h s a b = record { is = up-end n h a b; safe = s; grows = omega arith }
+
+pub ruleset loops = (needs, held-again, up-cells, up-none, up-more, up-end, moved-more, moved-end)
+
+-- ---- the whole search
+length-cleared : (n : ℕ) (room : List ℕ) → length (up cleared n room) ≡ length room
+unfolding up
+length-cleared zero room = refl
+length-cleared (suc n) room = length-set (up cleared n room) n 0 ∙ length-cleared n room
+
+pub cleared-zero : (n : ℕ) (room : List ℕ) → n ≤ length room → (c : ℕ) → c < n → getD (up cleared n room) c 0 ≡ 0
+unfolding up
+cleared-zero zero room h c l = absurd (omega arith)
+cleared-zero (suc n) room h c l = ⊎-elim
+    (λ e. rw e (getD-set-same (up cleared n room) n 0 0 (omega (arith, length-cleared n room))))
+    (λ k. getD-set-other (up cleared n room) n c 0 0 (λ e. omega arith) ∙ cleared-zero n room (omega arith) c k)
+    (eq-or-lt-of-le (le-of-suc-le-suc l))
+
+pub cleared-safe : (n : ℕ) (room : List ℕ) → n ≤ 32768 → n + n ≤ length room → Safe n (queue (up cleared n room) 0)
+cleared-safe n room few long = record {
+  few = few;
+  long = omega (arith, length-cleared n room);
+  inside = λ k l. absurd (omega arith);
+  low = λ c l. omega (arith, cleared-zero n room (omega arith) c l);
+  free = omega (arith, count-le n (λ c. eqb (getD (up cleared n room) c 0) 0));
+}
+
+pub cleared-roomy : (s : Sides) (ls room done : List ℕ) → Roomy s ls room → done ≡ up cleared (length ls) room → Safe (length ls) (queue done 0)
+cleared-roomy s ls room done r e = rw e (cleared-safe (length ls) room (omega (arith, r .sized, cells-few s (r .fit))) (omega (arith, r .sized, r .long)))
+
+pub held-first : (s : Sides) (ls room : List ℕ) (q want got : Queue) → Roomy s ls room → Moved (length ls) q want got → Held s ls got
+held-first s ls room q want got r m = record { fit = r .fit; sized = r .sized; safe = subst (λ n. Safe n got) (r .sized) (m .safe) }
+
+pub searched-is : (s : Sides) (ls room zeros mid end : List ℕ) (t u : ℕ) → length ls ≡ cells s → zeros ≡ up cleared (length ls) room
+    → Moved (length ls) (queue zeros 0) (up (start (length ls) (isOpening ls)) (length ls) (queue zeros 0)) (queue mid t)
+    → queue end u ≡ up (turn (cells s) (isAir ls) (around s)) (cells s) (queue mid t)
+    → end ≡ searched s ls room .room
+unfolding searched started
+searched-is s ls room zeros mid end t u e a b d =
+    ap (λ q. q .room) (d ∙ ap (up (turn (cells s) (isAir ls) (around s)) (cells s)) (b .is ∙ ap₂ (λ n z. up (start n (isOpening ls)) n (queue z 0)) e (a ∙ ap (λ n. up cleared n room) e)))
+
+pub ruleset searching = (needs, cleared-roomy, held-first, searched-is)
+
+-- ---- what the marks give
+module _ (ls room : List ℕ) (c : ℕ) (l : c < length ls) where
+  deeper-air : (d x : ℕ) → getD ls c 0 ≡ 0 → x ≡ max d (getD room c 0 - 1) → x ≡ deeper ls room c d
+  unfolding deeper
+  deeper-air d x e h = h ∙ sym (ap (λ b. cond b (max d (getD room c 0 - 1)) d) (air-yes ls c l e))
+
+  pub deeper-more : (d : ℕ) → getD ls c 0 ≡ 0 → d < getD room c 0 - 1 → getD room c 0 - 1 ≡ deeper ls room c d
+  deeper-more d e h = deeper-air d (getD room c 0 - 1) e (omega arith)
+
+  pub deeper-less : (d : ℕ) → getD ls c 0 ≡ 0 → getD room c 0 - 1 ≤ d → d ≡ deeper ls room c d
+  deeper-less d e h = deeper-air d d e (omega arith)
+
+  pub deeper-none : (d : ℕ) → getD ls c 0 ≡ 0 → getD room c 0 ≤ 0 → d ≡ deeper ls room c d
+  deeper-none d e h = deeper-air d d e (omega arith)
+
+  pub deeper-not : (d : ℕ) → (getD ls c 0 ≡ 0 → ⊥) → d ≡ deeper ls room c d
+  unfolding deeper
+  deeper-not d e = sym (ap (λ b. cond b (max d (getD room c 0 - 1)) d) (air-no ls c l e))
+
+  pub lost-air : getD ls c 0 ≡ 0 → eqb (getD room c 0) 0 ≡ lost ls room c
+  unfolding lost
+  lost-air e = sym (ap (λ b. b && eqb (getD room c 0) 0) (air-yes ls c l e))
+
+  pub lost-not : (getD ls c 0 ≡ 0 → ⊥) → false ≡ lost ls room c
+  unfolding lost
+  lost-not e = sym (ap (λ b. b && eqb (getD room c 0) 0) (air-no ls c l e))
+
+pub ruleset marks = (needs, deeper-more, deeper-less, deeper-none, deeper-not, lost-air, lost-not)
+
+-- the first cell at which a test passes, where it passed at none before
+pub record None (test : ℕ → Bool) (i : ℕ) : Type 0 where
+  pub none-below : (j : ℕ) → j < i → test j ≡ false
+
+pub none-start : {test : ℕ → Bool} → None test 0
+none-start = record { none-below = λ j l. absurd (omega arith) }
+
+pub none-more : {test : ℕ → Bool} {i : ℕ} (r : Bool) → None test i → r ≡ test i → r ≡ false → None test (i + 1)
+none-more {test} {i} r h e f = record { none-below = λ j l. go j (rw add-one at l) }
+  where
+    go : (j : ℕ) → j < suc i → test j ≡ false
+    go j l = ⊎-elim (λ q. ap test q ∙ sym e ∙ f) (λ k. h .none-below j k) (eq-or-lt-of-le (le-of-suc-le-suc l))
+
+pub first-here : (test : ℕ → Bool) (n i : ℕ) (r : Bool) → None test i → i < n → r ≡ test i → r ≡ true → At i ≡ first test n
+first-here test n i r h l e f = go (search-first test n)
+  where
+    here : T (test i)
+    here = so (sym e ∙ f)
+
+    go : Search test n → At i ≡ first test n
+    go (none q g) = absurd (T-not (test i) (g i l) here)
+    go (found c q g) = ⊎-elim
+        (λ a. ⊎-elim (λ b. ap At b ∙ sym q) (λ b. absurd (T-not (test i) (g .before i b) here)) (eq-or-lt-of-le a))
+        (λ b. absurd (T-not (test c) (so-not (h .none-below c b)) (g .here)))
+        (le-or-lt i c)
+
+pub first-none : (test : ℕ → Bool) (n i : ℕ) → None test i → i ≤ n → n ≤ i → Nowhere ≡ first test n
+first-none test n i h a b = go (search-first test n)
+  where
+    go : Search test n → Nowhere ≡ first test n
+    go (none q g) = sym q
+    go (found c q g) = absurd (T-not (test c) (so-not (h .none-below c (omega (arith, g .below)))) (g .here))
+
+pub ruleset firsts = (needs, none-start, none-more, first-here, first-none)

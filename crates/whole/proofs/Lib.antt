@@ -1,0 +1,2 @@
+-- What the proofs of this crate and of its callers cite.
+pub mod Laws

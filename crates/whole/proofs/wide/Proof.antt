@@ -1,0 +1,13 @@
+-- `whole::wide` meets its contract. Assumes nothing.
+use Rattle.whole.proofs.Laws.{wholes}
+use Rattle.whole.proofs.wide.Statement.{statement}
+use Rattle.whole.proofs.wide.Tie as tie
+
+cast-result : tie.Need-cast-result
+cast-result c = search wholes
+
+returns : tie.Need-returns
+returns c = search wholes
+
+pub wide-spec : {M : Type 1} → statement M
+wide-spec = tie.close (tie.spec cast-result returns)
