@@ -6,3 +6,4 @@ pub mod Naturals
 pub mod Lists
 pub mod Zed
 pub mod Sums
+pub mod Fill

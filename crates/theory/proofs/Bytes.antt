@@ -13,6 +13,7 @@ use borrow.Author.Tests.{lt-ltb, le-ltb}
 use Rattle.method.specs.declared.Order.{Order}
 use Rattle.method.specs.declared.Order.the-variants.{Big, Little}
 use Rattle.method.specs.Form.{inOrder, mostFirst, twosComplement, wordOf, fourBytes, valueRead, valueWritten}
+use Rattle.laws.proofs.Fill.{tab-same}
 use Rattle.laws.specs.Lists.{tab}
 use Rattle.laws.proofs.Naturals.{le-or-lt}
 
@@ -96,12 +97,6 @@ bytes-back Big a b c d ha hb hc hd = big-back a b c d ha hb hc hd
 bytes-back Little a b c d ha hb hc hd = ap reverse (big-back d c b a hd hc hb ha)
 
 -- ---- a row of values
-module _ {A : Type 0} where
-  pub tab-same : (n : ℕ) (f g : ℕ → A) → ((i : ℕ) → i < n → f i ≡ g i) → tab n f ≡ tab n g
-  unfolding tab
-  tab-same zero f g h = refl
-  tab-same (suc n) f g h = ap₂ (λ x l. x ∷ l) (h 0 (omega arith)) (tab-same n (λ k. f (suc k)) (λ k. g (suc k)) (λ i l. h (suc i) (suc-le-suc l)))
-
 -- the values of a body that has nothing before them
 abbrev pub row : Order → ℕ → List ℕ → List ℤ
 row o n bs = tab n (λ c. valueRead o (take 4 (drop (4 * c) bs)))

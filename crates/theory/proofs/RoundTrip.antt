@@ -26,7 +26,8 @@ use Rattle.theory.proofs.Verdicts.{AllPass, Judged, fine, faulty, judge
 use Rattle.theory.proofs.Sides.{fit, to}
 use Rattle.theory.proofs.Reach.{never}
 use Rattle.theory.proofs.Firsts.{Search, found, none, search-first}
-use Rattle.theory.proofs.Bytes.{tab-same, row, length-row, row-back, back-row}
+use Rattle.laws.proofs.Fill.{tab-same}
+use Rattle.theory.proofs.Bytes.{row, length-row, row-back, back-row}
 use Rattle.theory.proofs.Lines.{Short, header-back, no-bad-line, back-header}
 
 -- ---- the body: labels, then values

@@ -1,0 +1,4 @@
+-- Proofs.
+pub mod Laws
+pub mod Rooms
+pub mod Cases
