@@ -1,0 +1,23 @@
+-- `levels::lists::gather_at` meets its contract. Assumes nothing.
+use Rattle.levels.proofs.Gathered.{levelling}
+use Rattle.levels.proofs.lists.gather_at.Statement.{statement}
+use Rattle.levels.proofs.lists.gather_at.Tie as tie
+
+level-list-requires : tie.Need-level-list-requires
+level-list-requires c κs = search levelling
+
+with-list-requires : tie.Need-with-list-requires
+with-list-requires c κs = search levelling
+
+add-t13 : tie.Need-add-t13
+add-t13 c = search levelling
+
+same-length : tie.Need-same-length
+same-length c = search levelling
+
+returns : tie.Need-returns
+returns c = search levelling
+
+pub gather-at-spec : {M : Type 1} → statement M
+gather-at-spec =
+    tie.close (tie.spec level-list-requires with-list-requires add-t13 same-length returns)

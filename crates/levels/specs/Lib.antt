@@ -1,0 +1,8 @@
+-- The definitions that the crate's contracts cite.
+pub mod Rooms
+pub mod Levels
+pub mod Kin
+pub mod AllLabels
+pub mod Other
+pub mod Lists
+pub mod AllLists
