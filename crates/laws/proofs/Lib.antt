@@ -7,3 +7,4 @@ pub mod Lists
 pub mod Zed
 pub mod Sums
 pub mod Fill
+pub mod Fills

@@ -1,0 +1,213 @@
+-- Sweeps of the room are sweeps of the fields in it, and over the list of the cells that pass a test they are the meaning's. Assumes nothing.
+use Prim.Native.Nat.{ℕ, zero, suc, _+_, _-_, _*_, _≤_, _<_}
+use mathlib.Core.Path.{_≡_, refl, sym, ap, _∙_}
+use mathlib.Core.Logic.{⊎-elim}
+use mathlib.Core.Bool.{Bool, true, false, cond}
+use mathlib.Core.List.{List, [], _∷_, _++_, append-nil}
+use native.Mathlib.Numerals.{add-one}
+use native.Mathlib.Omega.{arith}
+use lib.ListN.{length, getD, set, take, drop, length-set, length-append, take-append-drop, List·getD-append}
+use lib.Seq.{take-at, drop-at, length-take-le, getD-append-seam}
+use mir.Syntax.{w64}
+use mir.Val.{Fits}
+use lib.Ieee.{Float}
+use Rattle.laws.specs.Binary64.{_⊕_}
+use Rattle.laws.specs.Loops.{up, down}
+use Rattle.laws.specs.Lists.{any}
+use Rattle.laws.proofs.Bools.{is-true, and-l, so}
+use Rattle.laws.proofs.Naturals.{le-or-lt}
+use Rattle.laws.proofs.Loops.{ups, downs}
+use Rattle.laws.proofs.Fill.{up-same}
+use Rattle.laws.proofs.Fills.{down-within, up-front, down-front}
+use Rattle.method.specs.declared.Sides.{Sides}
+use Rattle.method.specs.Cast.{cells, isAir}
+use Rattle.method.specs.Levels.{value, inBand, hasOther, givenTo}
+use Rattle.method.specs.Cycle.{change, relaxed, ascending, descending}
+use Rattle.theory.proofs.Sides.{Fit}
+use Rattle.grid.proofs.Steps.{cells-most}
+use Rattle.smooth.specs.Fields.{u-of, b-of, relaxTurn}
+use Rattle.smooth.specs.Sweeps.{relaxedAt, sweptUp, sweptDown, Below, chosen}
+
+-- ---- from the room to the fields
+pub relaxed-length : (g : Sides) (ls : List ℕ) (at : ℕ → Bool) (b : List Float) (c : ℕ) (u : List Float) → length (relaxed g ls at b c u) ≡ length u
+unfolding relaxed
+relaxed-length g ls at b c u = go (at c)
+  where
+    go : (t : Bool) → length (cond t (set u c (value u c ⊕ change g ls b u c)) u) ≡ length u
+    go true = length-set u c (value u c ⊕ change g ls b u c)
+    go false = refl
+
+turn-front : (g : Sides) (ls : List ℕ) (c : ℕ) (u r : List Float) → length u ≡ cells g → relaxTurn g ls c (u ++ r) ≡ relaxed g ls (isAir ls) (take (cells g) r) c u ++ r
+turn-front g ls c u r h = rw (take-at u r (cells g) h, drop-at u r (cells g) h)
+
+-- the turn at the k-th cell of a list
+abbrev pub listTurn : Sides → List ℕ → List ℕ → ℕ → List Float → List Float
+listTurn g ls cs k r = relaxTurn g ls (getD cs k 0) r
+
+module _ (g : Sides) (ls cs : List ℕ) (s t : List Float) (h : 3 * cells g ≤ length s) where
+  pub sweep-up-is : t ≡ up (listTurn g ls cs) (length cs) s → t ≡ sweptUp g ls cs (b-of (cells g) s) (u-of (cells g) s) ++ drop (cells g) s
+  unfolding sweptUp
+  sweep-up-is e =
+      e ∙ ap (up (listTurn g ls cs) (length cs)) (sym (take-append-drop (cells g) s))
+      ∙ up-front (listTurn g ls cs) (relaxedAt g ls cs (b-of (cells g) s)) (cells g) (drop (cells g) s)
+      (λ k u. relaxed-length g ls (isAir ls) (b-of (cells g) s) (getD cs k 0) u)
+      (λ k u l. turn-front g ls (getD cs k 0) u (drop (cells g) s) l)
+      (length cs) (u-of (cells g) s) (length-take-le (cells g) s (omega arith))
+
+  pub sweep-down-is : t ≡ down (listTurn g ls cs) (length cs) s → t ≡ sweptDown g ls cs (b-of (cells g) s) (u-of (cells g) s) ++ drop (cells g) s
+  unfolding sweptDown
+  sweep-down-is e =
+      e ∙ ap (down (listTurn g ls cs) (length cs)) (sym (take-append-drop (cells g) s))
+      ∙ down-front (listTurn g ls cs) (relaxedAt g ls cs (b-of (cells g) s)) (cells g) (drop (cells g) s)
+      (λ k u. relaxed-length g ls (isAir ls) (b-of (cells g) s) (getD cs k 0) u)
+      (λ k u l. turn-front g ls (getD cs k 0) u (drop (cells g) s) l)
+      (length cs) (u-of (cells g) s) (length-take-le (cells g) s (omega arith))
+
+pub below-at : (n : ℕ) (cs : List ℕ) (k : ℕ) → Below n cs → k < length cs → getD cs k 0 < n
+below-at n cs k b h = b .at k h
+
+-- the turn before, as a loop that descends reads it
+pub below-back : (n : ℕ) (cs : List ℕ) (k : ℕ) → Below n cs → 0 < k → k ≤ length cs → getD cs (k - 1) 0 < n
+below-back n cs k b p h = b .at (k - 1) (omega arith)
+
+-- a cell's number fits
+pub cell-fits : (g : Sides) (c : ℕ) → Fit g → c < cells g → Fits w64 c
+cell-fits g c z h = omega (arith, cells-most g z)
+
+pub ruleset sweeping-up = (ups, below-at, cell-fits, sweep-up-is)
+
+pub ruleset sweeping-down = (downs, below-back, cell-fits, sweep-down-is)
+
+-- ---- a loop over the cells that pass a test is a loop over all cells that tests each
+module _ {A : Type 0} (f : ℕ → A → A) where
+  abbrev each : List ℕ → ℕ → A → A
+  each l k s = f (getD l k 0) s
+
+  one-more : (l : List ℕ) (n : ℕ) → length (l ++ (n ∷ [])) ≡ suc (length l)
+  one-more l n = omega (arith, length-append l (n ∷ []))
+
+  each-front : (l : List ℕ) (n i : ℕ) (a : A) → i < length l → each (l ++ (n ∷ [])) i a ≡ each l i a
+  each-front l n i a h = ap (λ c. f c a) (List·getD-append l (n ∷ []) 0 i h)
+
+  up-snoc : (l : List ℕ) (n : ℕ) (s : A) → up (each (l ++ (n ∷ []))) (length (l ++ (n ∷ []))) s ≡ f n (up (each l) (length l) s)
+  unfolding up
+  up-snoc l n s =
+      ap (λ k. up (each (l ++ (n ∷ []))) k s) (one-more l n)
+      ∙ ap (λ c. f c (up (each (l ++ (n ∷ []))) (length l) s)) (getD-append-seam l n [] 0)
+      ∙ ap (f n) (up-same (each (l ++ (n ∷ []))) (each l) s (length l) (λ i a h. each-front l n i a h))
+
+  down-snoc : (l : List ℕ) (n : ℕ) (s : A) → down (each (l ++ (n ∷ []))) (length (l ++ (n ∷ []))) s ≡ down (each l) (length l) (f n s)
+  unfolding down
+  down-snoc l n s =
+      ap (λ k. down (each (l ++ (n ∷ []))) k s) (one-more l n)
+      ∙ ap (λ c. down (each (l ++ (n ∷ []))) (length l) (f c s)) (getD-append-seam l n [] 0)
+      ∙ down-within (each (l ++ (n ∷ []))) (each l) (length l) (f n s) (λ i a h. each-front l n i a h)
+
+  module _ (at : ℕ → Bool) where
+    abbrev tested : ℕ → A → A
+    tested c s = cond (at c) (f c s) s
+
+    pub up-chosen : (n : ℕ) (s : A) → up (each (chosen at n)) (length (chosen at n)) s ≡ up tested n s
+    unfolding up chosen
+    up-chosen zero s = refl
+    up-chosen (suc n) s = go (at n) ∙ ap (λ a. cond (at n) (f n a) a) (up-chosen n s)
+      where
+        l : List ℕ
+        l = chosen at n
+
+        go : (t : Bool) → up (each (l ++ cond t (n ∷ []) [])) (length (l ++ cond t (n ∷ []) [])) s ≡ cond t (f n (up (each l) (length l) s)) (up (each l) (length l) s)
+        go true = up-snoc l n s
+        go false = ap (λ r. up (each r) (length r) s) (append-nil l)
+
+    pub down-chosen : (n : ℕ) (s : A) → down (each (chosen at n)) (length (chosen at n)) s ≡ down tested n s
+    unfolding down chosen
+    down-chosen zero s = refl
+    down-chosen (suc n) s = go (at n) ∙ down-chosen n (cond (at n) (f n s) s)
+      where
+        l : List ℕ
+        l = chosen at n
+
+        go : (t : Bool) → down (each (l ++ cond t (n ∷ []) [])) (length (l ++ cond t (n ∷ []) [])) s ≡ down (each l) (length l) (cond t (f n s) s)
+        go true = down-snoc l n s
+        go false = ap (λ r. down (each r) (length r) s) (append-nil l)
+
+-- ---- THE LAWS: a sweep over the list of the cells that pass a test, air cells all, is the meaning's sweep
+module _ (g : Sides) (ls : List ℕ) (at : ℕ → Bool) (air : (c : ℕ) → at c ≡ true → isAir ls c ≡ true) (b : List Float) where
+  tested-is : (c : ℕ) (u : List Float) → cond (at c) (relaxed g ls (isAir ls) b c u) u ≡ relaxed g ls at b c u
+  unfolding relaxed
+  tested-is c u = go (at c) (air c)
+    where
+      new : List Float
+      new = set u c (value u c ⊕ change g ls b u c)
+
+      go : (t : Bool) → (t ≡ true → isAir ls c ≡ true) → cond t (cond (isAir ls c) new u) u ≡ cond t new u
+      go true p = ap (λ q. cond q new u) (p refl)
+      go false p = refl
+
+  pub chosen-ascending : (u : List Float) → sweptUp g ls (chosen at (cells g)) b u ≡ ascending g ls at b u
+  unfolding sweptUp ascending
+  chosen-ascending u = up-chosen (relaxed g ls (isAir ls) b) at (cells g) u
+      ∙ up-same (λ c a. cond (at c) (relaxed g ls (isAir ls) b c a) a) (relaxed g ls at b) u (cells g) (λ c a h. tested-is c a)
+
+  pub chosen-descending : (u : List Float) → sweptDown g ls (chosen at (cells g)) b u ≡ descending g ls at b u
+  unfolding sweptDown descending
+  chosen-descending u = down-chosen (relaxed g ls (isAir ls) b) at (cells g) u
+      ∙ down-within (λ c a. cond (at c) (relaxed g ls (isAir ls) b c a) a) (relaxed g ls at b) (cells g) u (λ c a h. tested-is c a)
+
+-- the band's cells are air
+pub band-air : (g : Sides) (ls : List ℕ) (c : ℕ) → inBand g ls c ≡ true → isAir ls c ≡ true
+unfolding inBand
+band-air g ls c e = is-true (isAir ls c) (and-l (isAir ls c) (any (λ d. hasOther g ls (d .cell)) (givenTo g c)) (so e))
+
+module _ (g : Sides) (ls : List ℕ) (b u : List Float) where
+  pub air-ascending : sweptUp g ls (chosen (isAir ls) (cells g)) b u ≡ ascending g ls (isAir ls) b u
+  air-ascending = chosen-ascending g ls (isAir ls) (λ c e. e) b u
+
+  pub air-descending : sweptDown g ls (chosen (isAir ls) (cells g)) b u ≡ descending g ls (isAir ls) b u
+  air-descending = chosen-descending g ls (isAir ls) (λ c e. e) b u
+
+  pub band-ascending : sweptUp g ls (chosen (inBand g ls) (cells g)) b u ≡ ascending g ls (inBand g ls) b u
+  band-ascending = chosen-ascending g ls (inBand g ls) (band-air g ls) b u
+
+  pub band-descending : sweptDown g ls (chosen (inBand g ls) (cells g)) b u ≡ descending g ls (inBand g ls) b u
+  band-descending = chosen-descending g ls (inBand g ls) (band-air g ls) b u
+
+-- ---- the chosen cells: one more or none, as a loop that lists them goes; they are below n, and no more than n
+pub chosen-yes : (at : ℕ → Bool) (n : ℕ) → at n ≡ true → chosen at (n + 1) ≡ chosen at n ++ (n ∷ [])
+unfolding chosen
+chosen-yes at n e = rw add-one (ap (λ t. chosen at n ++ cond t (n ∷ []) []) e)
+
+pub chosen-no : (at : ℕ → Bool) (n : ℕ) → at n ≡ false → chosen at (n + 1) ≡ chosen at n
+unfolding chosen
+chosen-no at n e = rw add-one (ap (λ t. chosen at n ++ cond t (n ∷ []) []) e ∙ append-nil (chosen at n))
+
+pub chosen-below : (at : ℕ → Bool) (n : ℕ) → Below n (chosen at n)
+unfolding chosen
+chosen-below at zero = record { at = λ k h. absurd (omega arith) }
+chosen-below at (suc n) = record { at = λ k h. go (at n) (chosen-below at n .at) k h }
+  where
+    l : List ℕ
+    l = chosen at n
+
+    go : (t : Bool) → ((k : ℕ) → k < length l → getD l k 0 < n) → (k : ℕ) → k < length (l ++ cond t (n ∷ []) []) → getD (l ++ cond t (n ∷ []) []) k 0 < suc n
+    go true p k h = ⊎-elim
+        (λ a. let last : k ≡ length l = omega (arith, length-append l (n ∷ [])) in
+        let here : getD (l ++ (n ∷ [])) k 0 ≡ n = ap (λ m. getD (l ++ (n ∷ [])) m 0) last ∙ getD-append-seam l n [] 0 in
+        omega arith)
+        (λ a. omega (arith, List·getD-append l (n ∷ []) 0 k a, p k a))
+        (le-or-lt (length l) k)
+    go false p k h =
+        let less : k < length l = omega (arith, length-append l []) in
+        omega (arith, List·getD-append l [] 0 k less, p k less)
+
+pub chosen-length : (at : ℕ → Bool) (n : ℕ) → length (chosen at n) ≤ n
+unfolding chosen
+chosen-length at zero = omega arith
+chosen-length at (suc n) = go (at n) (chosen-length at n)
+  where
+    l : List ℕ
+    l = chosen at n
+
+    go : (t : Bool) → length l ≤ n → length (l ++ cond t (n ∷ []) []) ≤ suc n
+    go true p = omega (arith, length-append l (n ∷ []))
+    go false p = omega (arith, length-append l [])
