@@ -2,3 +2,4 @@
 pub mod Laws
 pub mod Choices
 pub mod Steps
+pub mod Counts

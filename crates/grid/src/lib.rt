@@ -1,3 +1,4 @@
 // The cast in code.
+pub mod interior;
 pub mod near;
 pub mod place;

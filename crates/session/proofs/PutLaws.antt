@@ -1,0 +1,394 @@
+-- Laws of bytes that are put one part after the other, and of decimal digits. Assumes nothing.
+use mathlib.Core.Path.{_≡_, refl, sym, ap, ap₂, _∙_}
+use mathlib.Core.Logic.{⊎-elim}
+use Rattle.laws.proofs.Naturals.{le-or-lt}
+use mathlib.Core.List.{List, [], _∷_, _++_, append-assoc, append-nil, flatMap, reverse}
+use Prim.Native.Nat.{ℕ, zero, suc, _+_, _-_, _*_, _/_, _%_, _^_, _≤_, _<_}
+use native.Mathlib.Nat.{mod-lt, mod-eq-of-lt, div-eq-of-lt, div-lt-self, div-one, not-suc-le-zero, le-of-suc-le-suc}
+use native.Mathlib.Numerals.{add-one}
+use native.Mathlib.Omega.{arith}
+use borrow.Author.Needs.{needs}
+use lib.ListN.{length, getD, take, drop, set, length-append, length-set}
+use lib.Seq.{sets, length-sets, take-suc, take-all, length-take-le}
+use lib.IntN.{ℤ, pos}
+use lib.Signed.{mag}
+use mir.Syntax.{w32, w64}
+use mir.Val.{Fits, SFits, toZ, ofZ}
+use mir.Facts.{toZ-ofZ}
+use Rattle.laws.specs.Text.{text}
+use Rattle.method.specs.declared.Sides.{Sides}
+use Rattle.method.specs.declared.Settings.{Settings}
+use Rattle.method.specs.declared.Order.{Order}
+use Rattle.method.specs.declared.Order.the-variants.{Big, Little}
+use Rattle.method.specs.Cast.{Cast}
+use Rattle.method.specs.Form.{lastDigit, spelled, decimal, line, orderWord, headerWritten, inOrder, fourBytes, wordOf, valueWritten, written}
+use Rattle.session.specs.Puts.{Put, DigitsOf, sideLines, settingLines}
+
+-- ---- one part after the other
+sets-append : (l xs ys : List ℕ) (i : ℕ) → sets l i (xs ++ ys) ≡ sets (sets l i xs) (i + length xs) ys
+sets-append l [] ys i = ap (λ k. sets l k ys) (omega arith)
+sets-append l (x ∷ xs) ys i = sets-append (set l i x) xs ys (suc i) ∙ ap (λ k. sets (sets (set l i x) (suc i) xs) k ys) (omega arith)
+
+pub put-length : {xs a b : List ℕ} {i j : ℕ} → Put xs a i b j → length b ≡ length a
+put-length {xs} {a} {b} {i} {j} h = ap length (h .is) ∙ length-sets a i xs
+
+pub put-then : {xs ys a b c : List ℕ} {i j k : ℕ} → Put xs a i b j → Put ys b j c k → Put (xs ++ ys) a i c k
+put-then {xs} {ys} {a} {b} {c} {i} {j} {k} h g = record {
+  is = g .is ∙ ap₂ (λ l n. sets l n ys) (h .is) (h .next) ∙ sym (sets-append a xs ys i);
+  next = omega (arith, g .next, h .next, length-append xs ys);
+}
+
+-- what is left of the room
+pub put-room : (xs ys a b : List ℕ) (i j : ℕ) → Put xs a i b j → i + length (xs ++ ys) ≤ length a → j + length ys ≤ length b
+put-room xs ys a b i j h r = omega (arith, h .next, put-length h, length-append xs ys)
+
+pub front-room : (xs ys : List ℕ) (i m : ℕ) → i + length (xs ++ ys) ≤ m → i + length xs ≤ m
+front-room xs ys i m r = omega (arith, length-append xs ys)
+
+-- ---- bytes, one store a turn
+pub record Copied (bytes old : List ℕ) (at i : ℕ) (new : List ℕ) : Type 0 where
+  pub is : new ≡ sets old at (take i bytes)
+
+pub copied-none : (bytes old : List ℕ) (at : ℕ) → Copied bytes old at 0 old
+copied-none bytes old at = record { is = refl }
+
+pub copied-more : (bytes old new : List ℕ) (at i : ℕ) → i < length bytes → Copied bytes old at i new → Copied bytes old at (i + 1) (set new (at + i) (getD bytes i 0))
+copied-more bytes old new at i l h =
+    let e : length (take i bytes) ≡ i = length-front in
+    record {
+      is = sym (ap (sets old at) (ap (λ k. take k bytes) (add-one i) ∙ take-suc bytes i 0 l) ∙ sets-append old (take i bytes) (getD bytes i 0 ∷ []) at
+          ∙ ap₂ (λ s k. set s (at + k) (getD bytes i 0)) (sym (h .is)) e);
+    }
+  where
+    length-front : length (take i bytes) ≡ i
+    length-front = length-take-le i bytes (omega arith)
+
+pub copied-all : (bytes old new : List ℕ) (at i : ℕ) → i ≤ length bytes → length bytes ≤ i → Copied bytes old at i new → Put bytes old at new (at + length bytes)
+copied-all bytes old new at i a b h = record { is = h .is ∙ ap (sets old at) (take-all i bytes b); next = refl }
+
+pub copied-room : (at i m n k : ℕ) → i < m → at + m ≤ n → k ≡ n → at + i < k
+copied-room at i m n k a b c = omega arith
+
+pub ruleset copies = (needs, copied-none, copied-more, copied-all, copied-room, length-set)
+
+pub four-put : (l : List ℕ) (at a b c d : ℕ) → Put (a ∷ b ∷ c ∷ d ∷ []) l at (set (set (set (set l at a) (at + 1) b) (at + 2) c) (at + 3) d) (at + 4)
+four-put l at a b c d = record {
+  is = ap₂ (λ x y. set (set (set (set l at a) x b) y c) (at + 3) d) (omega arith) (omega arith) ∙ ap (λ z. set (set (set (set l at a) (suc at) b) (suc (suc at)) c) z d) (omega arith);
+  next = refl;
+}
+
+-- ---- decimal digits
+abbrev pick : ℕ → List ℕ → List ℕ → List ℕ
+pick zero a b = a
+pick (suc m) a b = b
+
+spelled-suc : (k n : ℕ) → spelled (suc k) n ≡ pick (n / 10) (lastDigit n) (spelled k (n / 10) ++ lastDigit n)
+unfolding spelled
+spelled-suc k n = go (n / 10)
+  where
+    go : (q : ℕ) → _≡_ {A = List ℕ} (elim q [ zero ↦ lastDigit n | suc m ↦ spelled k (n / 10) ++ lastDigit n ]) (pick q (lastDigit n) (spelled k (n / 10) ++ lastDigit n))
+    go zero = refl
+    go (suc q) = refl
+
+spelled-small : (k n : ℕ) → n < 10 → spelled k n ≡ lastDigit n
+unfolding spelled
+spelled-small zero n h = refl
+spelled-small (suc k) n h = spelled-suc k n ∙ ap (λ q. pick q (lastDigit n) (spelled k (n / 10) ++ lastDigit n)) (div-eq-of-lt h)
+
+spelled-large : (k n : ℕ) → 10 ≤ n → spelled (suc k) n ≡ spelled k (n / 10) ++ lastDigit n
+spelled-large k n h = spelled-suc k n ∙ go (n / 10) (omega arith)
+  where
+    go : (q : ℕ) → 0 < q → pick q (lastDigit n) (spelled k (n / 10) ++ lastDigit n) ≡ spelled k (n / 10) ++ lastDigit n
+    go zero p = absurd (not-suc-le-zero p)
+    go (suc q) p = refl
+
+-- any number of turns that is enough gives the same
+enough : (k j n : ℕ) → n ≤ k → n ≤ j → spelled k n ≡ spelled j n
+enough zero j n a b = spelled-small zero n (omega arith) ∙ sym (spelled-small j n (omega arith))
+enough (suc k) zero n a b = spelled-small (suc k) n (omega arith) ∙ sym (spelled-small zero n (omega arith))
+enough (suc k) (suc j) n a b = ⊎-elim
+    (λ h. spelled-large k n h ∙ ap (λ l. l ++ lastDigit n) (enough k j (n / 10) (omega arith) (omega arith)) ∙ sym (spelled-large j n h))
+    (λ h. spelled-small (suc k) n h ∙ sym (spelled-small (suc j) n h))
+    (le-or-lt 10 n)
+
+pub decimal-small : (n : ℕ) → n < 10 → decimal n ≡ (48 + n) ∷ []
+unfolding decimal lastDigit
+decimal-small n h = spelled-small n n h ∙ ap (λ d. (48 + d) ∷ []) (mod-eq-of-lt h)
+
+pub decimal-large : (n : ℕ) → 10 ≤ n → decimal n ≡ decimal (n / 10) ++ ((48 + n % 10) ∷ [])
+unfolding decimal lastDigit
+decimal-large zero h = absurd (not-suc-le-zero h)
+decimal-large (suc n) h = spelled-large n (suc n) h ∙ ap (λ l. l ++ lastDigit (suc n)) (enough n (suc n / 10) (suc n / 10) (omega arith) (omega arith))
+
+spelled-length : (k n : ℕ) → length (spelled k n) ≤ k + 1
+unfolding spelled lastDigit
+spelled-length zero n = omega arith
+spelled-length (suc k) n = rw (spelled-suc k n) (go (n / 10) (spelled-length k (n / 10)))
+  where
+    go : (q : ℕ) → length (spelled k (n / 10)) ≤ k + 1 → length (pick q (lastDigit n) (spelled k (n / 10) ++ lastDigit n)) ≤ suc k + 1
+    go zero h = omega arith
+    go (suc q) h = omega (arith, length-append (spelled k (n / 10)) (lastDigit n))
+
+pub decimal-length : (n : ℕ) → length (decimal n) ≤ n + 1
+unfolding decimal
+decimal-length n = spelled-length n n
+
+length-small : (n : ℕ) → n < 10 → length (decimal n) ≡ 1
+length-small n h = ap length (decimal-small n h)
+
+length-large : (n : ℕ) → 10 ≤ n → length (decimal n) ≡ length (decimal (n / 10)) + 1
+length-large n h = ap length (decimal-large n h) ∙ length-append (decimal (n / 10)) ((48 + n % 10) ∷ [])
+
+-- k digits are counted, with one of the rest
+pub record Counting (n k rest : ℕ) : Type 0 where
+  pub is : k + length (decimal rest) ≡ length (decimal n) + 1
+
+pub counting-none : (n : ℕ) → Counting n 1 n
+counting-none n = record { is = omega arith }
+
+pub counting-more : (n k rest : ℕ) → 10 ≤ rest → Counting n k rest → Counting n (k + 1) (rest / 10)
+counting-more n k rest h c = record { is = omega (arith, c .is, length-large rest h) }
+
+pub counting-fits : (n k rest : ℕ) → n < 2 ^ 32 → Counting n k rest → Fits w64 (k + 1)
+counting-fits n k rest h c = record { fits = omega (arith, c .is, decimal-length n) }
+
+pub counting-end : (n k rest : ℕ) → n < 2 ^ 32 → rest < 10 → Counting n k rest → DigitsOf n k
+counting-end n k rest h l c = record { is = omega (arith, c .is, length-small rest l); few = omega (arith, c .is, length-small rest l, decimal-length n) }
+
+pub shrinks : (rest : ℕ) → 10 ≤ rest → rest / 10 < rest
+shrinks rest h = omega arith
+
+pub ruleset countings = (needs, counting-none, counting-more, counting-fits, counting-end, shrinks)
+
+-- ---- a number put, its last digit last
+pub put-small : (n : ℕ) (a b : List ℕ) (i j : ℕ) → n < 10 → Put ((48 + n) ∷ []) a i b j → Put (decimal n) a i b j
+put-small n a b i j h p = rw (decimal-small n h) p
+
+pub put-large : (n : ℕ) (a b c : List ℕ) (i j k : ℕ) → 10 ≤ n → Put (decimal (n / 10)) a i b j → Put ((48 + n % 10) ∷ []) b j c k → Put (decimal n) a i c k
+put-large n a b c i j k h p q = rw (decimal-large n h) (put-then p q)
+
+pub small-room : (n i m : ℕ) → n < 10 → i + length (decimal n) ≤ m → i < m
+small-room n i m h r = omega (arith, length-small n h)
+
+pub large-room : (n i m : ℕ) → 10 ≤ n → i + length (decimal n) ≤ m → i + length (decimal (n / 10)) ≤ m
+large-room n i m h r = omega (arith, length-large n h)
+
+pub last-room : (n : ℕ) (a b : List ℕ) (i j : ℕ) → 10 ≤ n → i + length (decimal n) ≤ length a → Put (decimal (n / 10)) a i b j → j < length b
+last-room n a b i j h r p = omega (arith, length-large n h, p .next, put-length p)
+
+pub last-digit : (n : ℕ) → n % 10 < 10
+last-digit n = mod-lt n (omega arith)
+
+pub falls : (n t : ℕ) → 10 ≤ n → n ≡ t → n / 10 < t
+falls n t h e = omega arith
+
+pub ruleset decimals = (needs, put-small, put-large, small-room, large-room, last-room, last-digit, falls)
+
+-- ---- three parts, one after the other
+module _ (xs ys zs a : List ℕ) (i : ℕ) (r : i + length (xs ++ ys ++ zs) ≤ length a) where
+  both : i + length (xs ++ ys) ≤ length a
+  both = front-room (xs ++ ys) zs i (length a) r
+
+  pub first-room : i + length xs ≤ length a
+  first-room = front-room xs ys i (length a) both
+
+  module _ (b : List ℕ) (j : ℕ) (p : Put xs a i b j) where
+    pub second-room : j + length ys ≤ length b
+    second-room = put-room xs ys a b i j p both
+
+    pub third-room : (c : List ℕ) (k : ℕ) → Put ys b j c k → k + length zs ≤ length c
+    third-room c k q = put-room (xs ++ ys) zs a c i k (put-then p q) r
+
+pub all-put : (xs ys zs a b c d : List ℕ) (i j k m : ℕ) → Put xs a i b j → Put ys b j c k → Put zs c k d m → Put (xs ++ ys ++ zs) a i d m
+all-put xs ys zs a b c d i j k m p q u = put-then (put-then p q) u
+
+-- a line: key, number, line feed
+module _ (key : List ℕ) (n : ℕ) (a : List ℕ) (i : ℕ) where
+  line-room : i + length (line key (decimal n)) ≤ length a → i + length (key ++ decimal n ++ text "\n") ≤ length a
+  unfolding line
+  line-room r = r
+
+  pub line-first : i + length (line key (decimal n)) ≤ length a → i + length (key) ≤ length a
+  line-first r = first-room (key) (decimal n) (text "\n") a i (line-room r)
+
+  pub line-second : (b : List ℕ) (j : ℕ) → i + length (line key (decimal n)) ≤ length a → Put (key) a i b j → j + length (decimal n) ≤ length b
+  line-second b j r p = second-room (key) (decimal n) (text "\n") a i (line-room r) b j p
+
+  pub line-third : (b c : List ℕ) (j k : ℕ) → i + length (line key (decimal n)) ≤ length a → Put (key) a i b j → Put (decimal n) b j c k → k + length (text "\n") ≤ length c
+  line-third b c j k r p q = third-room (key) (decimal n) (text "\n") a i (line-room r) b j p c k q
+
+  pub line-put : (b c d : List ℕ) (j k m : ℕ) → Put (key) a i b j → Put (decimal n) b j c k → Put (text "\n") c k d m → Put (line key (decimal n)) a i d m
+  unfolding line
+  line-put b c d j k m p q u = all-put _ _ _ a b c d i j k m p q u
+
+-- the sides
+module _ (s : Sides) (a : List ℕ) (i : ℕ) where
+  sides-room : i + length (sideLines s) ≤ length a → i + length (line (text "nx=") (decimal (s .nx)) ++ line (text "ny=") (decimal (s .ny)) ++ line (text "nz=") (decimal (s .nz))) ≤ length a
+  unfolding sideLines
+  sides-room r = r
+
+  pub sides-first : i + length (sideLines s) ≤ length a → i + length (line (text "nx=") (decimal (s .nx))) ≤ length a
+  sides-first r = first-room (line (text "nx=") (decimal (s .nx))) (line (text "ny=") (decimal (s .ny))) (line (text "nz=") (decimal (s .nz))) a i (sides-room r)
+
+  pub sides-second : (b : List ℕ) (j : ℕ) → i + length (sideLines s) ≤ length a → Put (line (text "nx=") (decimal (s .nx))) a i b j → j + length (line (text "ny=") (decimal (s .ny))) ≤ length b
+  sides-second b j r p = second-room (line (text "nx=") (decimal (s .nx))) (line (text "ny=") (decimal (s .ny))) (line (text "nz=") (decimal (s .nz))) a i (sides-room r) b j p
+
+  pub sides-third : (b c : List ℕ) (j k : ℕ) → i + length (sideLines s) ≤ length a → Put (line (text "nx=") (decimal (s .nx))) a i b j → Put (line (text "ny=") (decimal (s .ny))) b j c k → k + length (line (text "nz=") (decimal (s .nz))) ≤ length c
+  sides-third b c j k r p q = third-room (line (text "nx=") (decimal (s .nx))) (line (text "ny=") (decimal (s .ny))) (line (text "nz=") (decimal (s .nz))) a i (sides-room r) b j p c k q
+
+  pub sides-put : (b c d : List ℕ) (j k m : ℕ) → Put (line (text "nx=") (decimal (s .nx))) a i b j → Put (line (text "ny=") (decimal (s .ny))) b j c k → Put (line (text "nz=") (decimal (s .nz))) c k d m → Put (sideLines s) a i d m
+  unfolding sideLines
+  sides-put b c d j k m p q u = all-put _ _ _ a b c d i j k m p q u
+
+-- the settings
+module _ (t : Settings) (a : List ℕ) (i : ℕ) where
+  settings-room : i + length (settingLines t) ≤ length a → i + length (line (text "tolerance=") (decimal (t .tolerance)) ++ line (text "levels=") (decimal (t .levels)) ++ line (text "rounds=") (decimal (t .rounds))) ≤ length a
+  unfolding settingLines
+  settings-room r = r
+
+  pub settings-first : i + length (settingLines t) ≤ length a → i + length (line (text "tolerance=") (decimal (t .tolerance))) ≤ length a
+  settings-first r = first-room (line (text "tolerance=") (decimal (t .tolerance))) (line (text "levels=") (decimal (t .levels))) (line (text "rounds=") (decimal (t .rounds))) a i (settings-room r)
+
+  pub settings-second : (b : List ℕ) (j : ℕ) → i + length (settingLines t) ≤ length a → Put (line (text "tolerance=") (decimal (t .tolerance))) a i b j → j + length (line (text "levels=") (decimal (t .levels))) ≤ length b
+  settings-second b j r p = second-room (line (text "tolerance=") (decimal (t .tolerance))) (line (text "levels=") (decimal (t .levels))) (line (text "rounds=") (decimal (t .rounds))) a i (settings-room r) b j p
+
+  pub settings-third : (b c : List ℕ) (j k : ℕ) → i + length (settingLines t) ≤ length a → Put (line (text "tolerance=") (decimal (t .tolerance))) a i b j → Put (line (text "levels=") (decimal (t .levels))) b j c k → k + length (line (text "rounds=") (decimal (t .rounds))) ≤ length c
+  settings-third b c j k r p q = third-room (line (text "tolerance=") (decimal (t .tolerance))) (line (text "levels=") (decimal (t .levels))) (line (text "rounds=") (decimal (t .rounds))) a i (settings-room r) b j p c k q
+
+  pub settings-put : (b c d : List ℕ) (j k m : ℕ) → Put (line (text "tolerance=") (decimal (t .tolerance))) a i b j → Put (line (text "levels=") (decimal (t .levels))) b j c k → Put (line (text "rounds=") (decimal (t .rounds))) c k d m → Put (settingLines t) a i d m
+  unfolding settingLines
+  settings-put b c d j k m p q u = all-put _ _ _ a b c d i j k m p q u
+
+-- the header: sides, order, settings
+pub header-parts : (s : Sides) (o : Order) (t : Settings) → headerWritten s o t ≡ sideLines s ++ line (text "order=") (orderWord o) ++ settingLines t
+unfolding headerWritten sideLines settingLines
+header-parts s o t = simp append-assoc
+
+module _ (s : Sides) (o : Order) (t : Settings) (a : List ℕ) (i : ℕ) where
+  header-room : i + length (headerWritten s o t) ≤ length a → i + length (sideLines s ++ line (text "order=") (orderWord o) ++ settingLines t) ≤ length a
+  header-room r = rw (header-parts s o t) at r
+
+  pub header-first : i + length (headerWritten s o t) ≤ length a → i + length (sideLines s) ≤ length a
+  header-first r = first-room (sideLines s) (line (text "order=") (orderWord o)) (settingLines t) a i (header-room r)
+
+  pub header-second : (b : List ℕ) (j : ℕ) → i + length (headerWritten s o t) ≤ length a → Put (sideLines s) a i b j → j + length (line (text "order=") (orderWord o)) ≤ length b
+  header-second b j r p = second-room (sideLines s) (line (text "order=") (orderWord o)) (settingLines t) a i (header-room r) b j p
+
+  pub header-third : (b c : List ℕ) (j k : ℕ) → i + length (headerWritten s o t) ≤ length a → Put (sideLines s) a i b j → Put (line (text "order=") (orderWord o)) b j c k → k + length (settingLines t) ≤ length c
+  header-third b c j k r p q = third-room (sideLines s) (line (text "order=") (orderWord o)) (settingLines t) a i (header-room r) b j p c k q
+
+  pub header-put : (b c d : List ℕ) (j k m : ℕ) → Put (sideLines s) a i b j → Put (line (text "order=") (orderWord o)) b j c k → Put (settingLines t) c k d m → Put (headerWritten s o t) a i d m
+  header-put b c d j k m p q u = rw (header-parts s o t) (all-put _ _ _ a b c d i j k m p q u)
+
+-- the order
+pub order-room-big : (o : Order) (i m : ℕ) → o ≡ Big → i + length (line (text "order=") (orderWord o)) ≤ m → i + 10 ≤ m
+unfolding line orderWord
+order-room-big o i m e r = rw e at r
+
+pub order-room-little : (o : Order) (i m : ℕ) → o ≡ Little → i + length (line (text "order=") (orderWord o)) ≤ m → i + 13 ≤ m
+unfolding line orderWord
+order-room-little o i m e r = rw e at r
+
+pub order-put-big : (o : Order) (a b : List ℕ) (i j : ℕ) → o ≡ Big → Put (text "order=big\n") a i b j → Put (line (text "order=") (orderWord o)) a i b j
+unfolding line orderWord
+order-put-big o a b i j e p = rw e p
+
+pub order-put-little : (o : Order) (a b : List ℕ) (i j : ℕ) → o ≡ Little → Put (text "order=little\n") a i b j → Put (line (text "order=") (orderWord o)) a i b j
+unfolding line orderWord
+order-put-little o a b i j e p = rw e p
+
+-- ---- values
+module _ (v : ℤ) (g : SFits w32 v) (w a b c d : ℕ) (e : w ≡ wordOf (toZ w32 (ofZ w32 v))) (p : a ≡ w / 16777216 % 256) (q : b ≡ w / 65536 % 256) (r : c ≡ w / 256 % 256) (s : d ≡ w / 1 % 256) where
+  bytes-of : a ∷ b ∷ c ∷ d ∷ [] ≡ fourBytes (wordOf v)
+  unfolding fourBytes
+  bytes-of = ap₂ (λ x y. x ∷ y ∷ c ∷ d ∷ []) p q ∙ ap₂ (λ x y. w / 16777216 % 256 ∷ w / 65536 % 256 ∷ x ∷ y ∷ []) r (s ∙ ap (λ x. x % 256) (div-one w)) ∙ ap fourBytes (e ∙ ap wordOf (toZ-ofZ g))
+
+  pub value-big : (o : Order) (x y : List ℕ) (i j : ℕ) → o ≡ Big → Put (a ∷ b ∷ c ∷ d ∷ []) x i y j → Put (valueWritten o v) x i y j
+  unfolding valueWritten inOrder
+  value-big o x y i j f u = rw (f, ← bytes-of) u
+
+  pub value-little : (o : Order) (x y : List ℕ) (i j : ℕ) → o ≡ Little → Put (d ∷ c ∷ b ∷ a ∷ []) x i y j → Put (valueWritten o v) x i y j
+  unfolding valueWritten inOrder
+  value-little o x y i j f u = rw (f, ← bytes-of) u
+
+value-length : (o : Order) (v : ℤ) → length (valueWritten o v) ≡ 4
+unfolding valueWritten inOrder fourBytes
+value-length Big v = refl
+value-length Little v = refl
+
+pub values-length : (o : Order) (vs : List ℤ) → length (flatMap (valueWritten o) vs) ≡ 4 * length vs
+unfolding flatMap
+values-length o [] = omega arith
+values-length o (v ∷ vs) = length-append (valueWritten o v) (flatMap (valueWritten o) vs) ∙ omega (arith, value-length o v, values-length o vs)
+
+flat-append : (f : ℤ → List ℕ) (xs ys : List ℤ) → flatMap f (xs ++ ys) ≡ flatMap f xs ++ flatMap f ys
+unfolding flatMap
+flat-append f [] ys = refl
+flat-append f (x ∷ xs) ys = ap (λ l. f x ++ l) (flat-append f xs ys) ∙ sym (append-assoc (f x) (flatMap f xs) (flatMap f ys))
+
+flat-one : (f : ℤ → List ℕ) (x : ℤ) → flatMap f (x ∷ []) ≡ f x
+unfolding flatMap
+flat-one f x = append-nil (f x)
+
+-- i values are put
+pub record Valued (o : Order) (vs : List ℤ) (old : List ℕ) (at i : ℕ) (new : List ℕ) (r : ℕ) : Type 0 where
+  pub puts : Put (flatMap (valueWritten o) (take i vs)) old at new r
+
+pub valued-none : (o : Order) (vs : List ℤ) (old : List ℕ) (at : ℕ) → Valued o vs old at 0 old at
+unfolding flatMap
+valued-none o vs old at = record { puts = record { is = refl; next = omega arith } }
+
+pub valued-more : (o : Order) (vs : List ℤ) (old new next : List ℕ) (at i r q : ℕ) → i < length vs → Valued o vs old at i new r
+    → mag (getD vs i (pos 0)) < 2 ^ 31 → Put (valueWritten o (toZ w32 (ofZ w32 (getD vs i (pos 0))))) new r next q
+    → Valued o vs old at (i + 1) next q
+valued-more o vs old new next at i r q l h m p =
+    let e : flatMap (valueWritten o) (take (i + 1) vs) ≡ flatMap (valueWritten o) (take i vs) ++ valueWritten o (getD vs i (pos 0)) =
+    ap (λ k. flatMap (valueWritten o) (take k vs)) (add-one i) ∙ ap (flatMap (valueWritten o)) (take-suc vs i (pos 0) l)
+    ∙ flat-append (valueWritten o) (take i vs) (getD vs i (pos 0) ∷ []) ∙ ap (λ x. flatMap (valueWritten o) (take i vs) ++ x) (flat-one (valueWritten o) (getD vs i (pos 0))) in
+    let f : toZ w32 (ofZ w32 (getD vs i (pos 0))) ≡ getD vs i (pos 0) = toZ-ofZ (record { sfits = m }) in
+    record { puts = rw e (put-then (h .puts) (rw f at p)) }
+
+pub valued-all : (o : Order) (vs : List ℤ) (old new : List ℕ) (at i r : ℕ) → length vs ≤ i → Valued o vs old at i new r → Put (flatMap (valueWritten o) vs) old at new r
+valued-all o vs old new at i r l h = rw (take-all i vs l) at (h .puts)
+
+pub valued-room : (o : Order) (vs : List ℤ) (old new : List ℕ) (at i r : ℕ) → i < length vs → at + 4 * length vs ≤ length old → Valued o vs old at i new r → r + 4 ≤ length new
+valued-room o vs old new at i r l m h =
+    omega (arith, h .puts .next, put-length (h .puts), values-length o (take i vs), length-take-le i vs (omega arith))
+
+pub valued-length : (o : Order) (vs : List ℤ) (old new : List ℕ) (at i r : ℕ) → Valued o vs old at i new r → length new ≡ length old
+valued-length o vs old new at i r h = put-length (h .puts)
+
+-- ---- a whole session
+module _ (s : Sides) (o : Order) (t : Settings) (ls : List ℕ) (vs : List ℤ) (a : List ℕ) (r : length (written (record { sides = s; labels = ls; values = vs }) o t) ≤ length a) where
+  whole-room : 0 + length (headerWritten s o t ++ ls ++ flatMap (valueWritten o) vs) ≤ length a
+  unfolding written
+  whole-room = omega (arith, r)
+
+  pub whole-first : 0 + length (headerWritten s o t) ≤ length a
+  whole-first = first-room (headerWritten s o t) ls (flatMap (valueWritten o) vs) a 0 whole-room
+
+  pub whole-second : (b : List ℕ) (j : ℕ) → Put (headerWritten s o t) a 0 b j → j + length ls ≤ length b
+  whole-second b j p = second-room (headerWritten s o t) ls (flatMap (valueWritten o) vs) a 0 whole-room b j p
+
+  pub whole-third : (b c : List ℕ) (j k : ℕ) → Put (headerWritten s o t) a 0 b j → Put ls b j c k → k + 4 * length vs ≤ length c
+  whole-third b c j k p q =
+      omega (arith, third-room (headerWritten s o t) ls (flatMap (valueWritten o) vs) a 0 whole-room b j p c k q, values-length o vs)
+
+pub whole-put : (s : Sides) (o : Order) (t : Settings) (ls : List ℕ) (vs : List ℤ) (a b c d : List ℕ) (j k m : ℕ) → Put (headerWritten s o t) a 0 b j → Put ls b j c k
+    → Put (flatMap (valueWritten o) vs) c k d m → Put (written (record { sides = s; labels = ls; values = vs }) o t) a 0 d m
+unfolding written
+whole-put s o t ls vs a b c d j k m p q u = all-put _ _ _ a b c d 0 j k m p q u
+
+pub ruleset valuing = (needs, value-big, value-little, valued-none, valued-more, valued-all, valued-room, valued-length)
+
+pub ruleset wholes = (needs, whole-first, whole-second, whole-third, whole-put)
+
+pub ruleset parts = (needs, line-first, line-second, line-third, line-put)
+
+pub ruleset sidely = (needs, sides-first, sides-second, sides-third, sides-put)
+
+pub ruleset settled = (needs, settings-first, settings-second, settings-third, settings-put)
+
+pub ruleset headed = (needs, header-first, header-second, header-third, header-put)
+
+pub ruleset ordered = (needs, order-room-big, order-room-little, order-put-big, order-put-little)

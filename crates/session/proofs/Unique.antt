@@ -1,0 +1,33 @@
+-- Each promise of a public function allows one result and one final content of what was lent. Assumes nothing.
+use mathlib.Core.Path.{_≡_, sym, ap₂, _∙_}
+use mathlib.Core.List.{List}
+use Prim.Native.Nat.{ℕ}
+use lib.IntN.{ℤ}
+use Rattle.method.specs.declared.Answer.{Answer}
+use Rattle.method.specs.declared.Sides.{Sides}
+use Rattle.method.specs.declared.Order.{Order}
+use Rattle.method.specs.declared.Settings.{Settings}
+use Rattle.method.specs.Calls.{reading}
+use Rattle.session.specs.Reads.{ReadOf, asked}
+use Rattle.session.specs.Writes.{WriteOf}
+use Rattle.session.specs.declared.Session.{Session}
+use Rattle.session.specs.declared.Written.{Written}
+
+session-eq : (r q : Session) → r .answer ≡ q .answer → r .sides ≡ q .sides → r .order ≡ q .order → r .settings ≡ q .settings → r ≡ q
+session-eq r q a s o t =
+    ap₂ (λ x y. record { answer = x; sides = y; order = r .order; settings = r .settings }) a s
+    ∙ ap₂ (λ x y. record { answer = q .answer; sides = q .sides; order = x; settings = y }) o t
+
+written-eq : (r q : Written) → r .answer ≡ q .answer → r .count ≡ q .count → r ≡ q
+written-eq r q a c = ap₂ (λ x y. record { answer = x; count = y }) a c
+
+pub read-one : (bytes : List ℕ) (old : List ℤ) (r q : Session) (x y : List ℤ) → ReadOf bytes old r x → ReadOf bytes old q y → (r ≡ q) × (x ≡ y)
+read-one bytes old r q x y a b =
+    (session-eq r q (a .answer ∙ sym (b .answer)) (a .sides ∙ sym (b .sides)) (a .order ∙ sym (b .order)) (a .settings ∙ sym (b .settings)), a .values ∙ sym (b .values))
+
+pub labels-one : (bytes : List ℕ) (room : ℕ) (x y : List ℕ) → x ≡ reading (asked bytes room) .labels → y ≡ reading (asked bytes room) .labels → x ≡ y
+labels-one bytes room x y a b = a ∙ sym b
+
+pub write-one : (s : Sides) (o : Order) (t : Settings) (ls : List ℕ) (vs : List ℤ) (old : List ℕ) (r q : Written) (x y : List ℕ)
+    → WriteOf s o t ls vs old r x → WriteOf s o t ls vs old q y → (r ≡ q) × (x ≡ y)
+write-one s o t ls vs old r q x y a b = (written-eq r q (a .answer ∙ sym (b .answer)) (a .count ∙ sym (b .count)), a .output ∙ sym (b .output))

@@ -1,0 +1,51 @@
+-- `session::checks::bad_label` meets its contract: no label before c is bad. Assumes nothing.
+use Prim.Native.Nat.{_≤_, _-_}
+use Rattle.session.specs.Body.{badLabelAt}
+use Rattle.session.proofs.CheckLaws.{searched, None}
+use Rattle.session.proofs.checks.bad_label.Statement.{statement}
+use Rattle.session.proofs.checks.bad_label.Tie as tie
+
+abbrev Inv-loop : tie.InvT-loop
+Inv-loop bytes n c₀ c = (c ≤ n) × None (badLabelAt bytes) c
+
+abbrev μ-loop : tie.MeasureT-loop
+μ-loop bytes n c₀ c = n - c
+
+loop-holds : tie.Need-loop-holds Inv-loop μ-loop
+loop-holds c = search searched
+
+shared-slice-read-if1 : tie.Need-shared-slice-read-if1 Inv-loop μ-loop
+shared-slice-read-if1 c = search searched
+
+cast-t7 : tie.Need-cast-t7 Inv-loop μ-loop
+cast-t7 c = search searched
+
+returns : tie.Need-returns Inv-loop μ-loop
+returns c = search searched
+
+add-c : tie.Need-add-c Inv-loop μ-loop
+add-c c = search searched
+
+loop-less : tie.Need-loop-less Inv-loop μ-loop
+loop-less c = search searched
+
+loop-again : tie.Need-loop-again Inv-loop μ-loop
+loop-again c = search searched
+
+returns-2 : tie.Need-returns-2 Inv-loop μ-loop
+returns-2 c = search searched
+
+pub bad-label-spec : {M : Type 1} → statement M
+bad-label-spec =
+    tie.close
+    (tie.spec
+    Inv-loop
+    μ-loop
+    loop-holds
+    shared-slice-read-if1
+    cast-t7
+    returns
+    add-c
+    loop-less
+    loop-again
+    returns-2)

@@ -1,0 +1,13 @@
+-- `session::checks::between` meets its contract, test by test. Assumes nothing.
+use Rattle.session.proofs.CheckLaws.{checked}
+use Rattle.session.proofs.checks.between.Statement.{statement}
+use Rattle.session.proofs.checks.between.Tie as tie
+
+returns : tie.Need-returns
+returns c = search checked
+
+returns-2 : tie.Need-returns-2
+returns-2 c = search checked
+
+pub between-spec : {M : Type 1} → statement M
+between-spec = tie.close (tie.spec returns returns-2)

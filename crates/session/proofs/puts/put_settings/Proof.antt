@@ -1,0 +1,41 @@
+-- `session::puts::put_settings` meets its contract: three lines. Assumes nothing.
+use Rattle.session.proofs.PutLaws.{settled}
+use Rattle.session.proofs.puts.put_settings.Statement.{statement}
+use Rattle.session.proofs.puts.put_settings.Tie as tie
+
+slice-aggregate-put-line : tie.Need-slice-aggregate-put-line
+slice-aggregate-put-line c = search settled
+
+put-line-requires : tie.Need-put-line-requires
+put-line-requires c κs = search settled
+
+slice-aggregate-put-line-2 : tie.Need-slice-aggregate-put-line-2
+slice-aggregate-put-line-2 c = search settled
+
+put-line-requires-2 : tie.Need-put-line-requires-2
+put-line-requires-2 c κs = search settled
+
+slice-aggregate-put-line-3 : tie.Need-slice-aggregate-put-line-3
+slice-aggregate-put-line-3 c = search settled
+
+put-line-requires-3 : tie.Need-put-line-requires-3
+put-line-requires-3 c κs = search settled
+
+same-length : tie.Need-same-length
+same-length c = search settled
+
+returns : tie.Need-returns
+returns c = search settled
+
+pub put-settings-spec : {M : Type 1} → statement M
+put-settings-spec =
+    tie.close
+    (tie.spec
+    slice-aggregate-put-line
+    put-line-requires
+    slice-aggregate-put-line-2
+    put-line-requires-2
+    slice-aggregate-put-line-3
+    put-line-requires-3
+    same-length
+    returns)

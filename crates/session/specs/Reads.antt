@@ -1,0 +1,55 @@
+-- What the reader promises, and what its judgement means.
+use mathlib.Core.Path.{_≡_}
+use mathlib.Core.Bool.{true}
+use mathlib.Core.List.{List}
+use Prim.Native.Nat.{ℕ, _*_, _≤_}
+use lib.ListN.{length, drop, replicate}
+use lib.IntN.{ℤ, pos}
+use Rattle.method.specs.declared.Answer.{Answer}
+use Rattle.method.specs.Cast.{cells, sidesFit}
+use Rattle.method.specs.Form.{header}
+use Rattle.method.specs.Answers.{Verdict, passed, refused, verdict}
+use Rattle.method.specs.Calls.{Reading, readerChecks, reading}
+use Rattle.session.specs.Lines.{named}
+use Rattle.session.specs.declared.Header.{Header}
+use Rattle.session.specs.declared.Judged.{Judged}
+use Rattle.session.specs.declared.Judged.the-variants.{Refused, Passed}
+use Rattle.session.specs.declared.Session.{Session}
+
+-- THE PROMISE of `read`: what comes back, and what the lent values hold, are those of method's `reading`.
+pub record ReadOf (bytes : List ℕ) (old : List ℤ) (r : Session) (new : List ℤ) : Type 0 where
+  pub answer : r .answer ≡ reading (record { bytes = bytes; values = old }) .answer
+  pub sides : r .sides ≡ reading (record { bytes = bytes; values = old }) .header .sides
+  pub order : r .order ≡ reading (record { bytes = bytes; values = old }) .header .order
+  pub settings : r .settings ≡ reading (record { bytes = bytes; values = old }) .header .settings
+  pub values : new ≡ reading (record { bytes = bytes; values = old }) .values
+
+-- a session read with room for so many values: no check looks at what the values are
+abbrev pub asked : List ℕ → ℕ → Reading
+asked bytes room = record { bytes = bytes; values = replicate room (pos 0) }
+
+-- ---- inside: the judgement
+unfoldable pub verdictOf : Judged → Verdict
+verdictOf (Refused num place) = refused num place
+verdictOf (Passed h) = passed
+
+-- a header that names n cells, with a body of n cells after it
+pub record Sized (bytes : List ℕ) (h : Header) (n : ℕ) : Type 0 where
+  pub is : header bytes ≡ named bytes h
+  pub within : h .start ≤ length bytes
+  pub fit : sidesFit (h .sides) ≡ true
+  pub cells : n ≡ cells (h .sides)
+  pub few : n ≤ 32768
+  pub long : length (drop (h .start) bytes) ≡ 5 * n
+
+pub record Ready (bytes : List ℕ) (room : ℕ) (h : Header) : Type 0 where
+  pub sized : Sized bytes h (cells (h .sides))
+  pub roomy : cells (h .sides) ≤ room
+
+unfoldable pub ReadyIf : List ℕ → ℕ → Judged → Type 0
+ReadyIf bytes room (Refused num place) = Unit {0}
+ReadyIf bytes room (Passed h) = Ready bytes room h
+
+pub record JudgedOf (bytes : List ℕ) (room : ℕ) (r : Judged) : Type 0 where
+  pub is : verdict readerChecks (asked bytes room) ≡ verdictOf r
+  pub ready : ReadyIf bytes room r

@@ -1,0 +1,70 @@
+// The reader's checks, in document 01's order: 10, 1, 11, 2, 3, 4, 5.
+ghost use mathlib.Core.Path.{_≡_};
+ghost use Rattle.method.specs.Answers.{verdict};
+ghost use Rattle.method.specs.Calls.{contentChecks};
+ghost use Rattle.session.specs.Lines.{HeaderOf};
+ghost use Rattle.session.specs.Reads.{JudgedOf, Sized, asked};
+ghost use Rattle.session.specs.Rulings.{rulingOf};
+ghost use Rattle.session.specs.declared.HeaderRead.the-variants.{Named};
+use crate::Header;
+use crate::HeaderRead;
+use crate::Judged;
+use crate::Ruling;
+use crate::checks::bad_label;
+use crate::checks::cells_of;
+use crate::checks::settings_fit;
+use crate::checks::sides_fit;
+use crate::line::rest;
+use crate::lines::header;
+use crate::rule::earlier;
+use crate::rule::fault_unless;
+use crate::rule::ruled;
+use crate::value::bad_value;
+
+// Checks 3, 4 and 5, of a body of n cells.
+fn judge_content(bytes: &[u8], n: usize, h: Header) -> Ruling
+    requires { ⌜ Sized (now bytes) h n ⌝ }
+    ensures { λ r. ⌜ verdict contentChecks (asked (now (bytes .entry)) 0) ≡ rulingOf r ⌝ }
+{
+    let settings = h.settings;
+    let order = h.order;
+    let start = h.start;
+    let body = rest(bytes, start);
+    let third = ruled(3, fault_unless(settings_fit(settings)));
+    let fourth = ruled(4, bad_label(body, n));
+    let fifth = ruled(5, bad_value(body, n, order));
+    earlier(third, earlier(fourth, fifth))
+}
+
+// Checks 1, 11 and 2, and then those of the content.
+fn judge_sizes(bytes: &[u8], room: usize, h: Header) -> Judged
+    requires { ⌜ HeaderOf (now bytes) (Named h) ⌝ }
+    ensures { λ r. ⌜ JudgedOf (now (bytes .entry)) room r ⌝ }
+{
+    let sides = h.sides;
+    if !sides_fit(sides) {
+        return Judged::Refused(1, 0);
+    }
+    let n = cells_of(sides);
+    let start = h.start;
+    let left = bytes.len() - start;
+    if left != 5 * n {
+        return Judged::Refused(11, 0);
+    }
+    if room < n {
+        return Judged::Refused(2, 0);
+    }
+    match judge_content(bytes, n, h) {
+        Ruling::Refused(number, place) => Judged::Refused(number, place),
+        Ruling::Allowed => Judged::Passed(h),
+    }
+}
+
+pub(crate) fn judge_session(bytes: &[u8], room: usize) -> Judged
+    ensures { λ r. ⌜ JudgedOf (now (bytes .entry)) room r ⌝ }
+{
+    match header(bytes) {
+        HeaderRead::Wrong(line) => Judged::Refused(10, line),
+        HeaderRead::Named(h) => judge_sizes(bytes, room, h),
+    }
+}

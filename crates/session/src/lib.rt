@@ -1,0 +1,172 @@
+// The reader and the writer of a session (document 01, "The session form").
+mod checks;
+mod decimal;
+mod judge;
+mod line;
+mod lines;
+mod puts;
+mod rule;
+mod value;
+mod writer;
+
+ghost use mathlib.Core.Path.{_≡_};
+ghost use Rattle.method.specs.Answers.{refusal as Answers·refusal};
+ghost use Rattle.method.specs.Calls.{reading};
+ghost use Rattle.session.specs.Reads.{ReadOf, asked};
+ghost use Rattle.session.specs.Writes.{WriteOf};
+use checks::cells_of;
+use judge::judge_session;
+use line::rest;
+use method::Answer;
+use method::Order;
+use method::Settings;
+use method::Sides;
+use puts::put_session;
+use value::store_values;
+use writer::judge_cast;
+
+// One line, read: not of the form, or its value and how many bytes it took.
+enum LineRead {
+    NotOfForm,
+    Value(u32, usize),
+}
+
+// Three lines of numbers, read: the number of the first that is not of the form, or the values and how many bytes they took.
+enum ThreeRead {
+    Wrong(u32),
+    Values(u32, u32, u32, usize),
+}
+
+// What the seven lines name, and where the body starts.
+struct Header {
+    sides: Sides,
+    order: Order,
+    settings: Settings,
+    start: usize,
+}
+
+// The seven lines, read: the number of the first that is not of the form, or what they name.
+enum HeaderRead {
+    Wrong(u32),
+    Named(Header),
+}
+
+// A session, judged: number and place of the first check that fails, or what the header names.
+enum Judged {
+    Refused(u32, u32),
+    Passed(Header),
+}
+
+// What the reader hands back beside the label part.
+pub struct Session {
+    pub answer: Answer,
+    pub sides: Sides,
+    pub order: Order,
+    pub settings: Settings,
+}
+
+// What checks say: number and place of the first that fails, or nothing against it.
+enum Ruling {
+    Refused(u32, u32),
+    Allowed,
+}
+
+// What the writer hands back.
+pub struct Written {
+    pub answer: Answer,
+    pub count: usize,
+}
+
+// An answer that has a number and a place alone.
+fn refusal(number: u32, place: u32) -> Answer
+    ensures { λ r. ⌜ r ≡ Answers·refusal number place ⌝ }
+{
+    Answer {
+        number,
+        place,
+        rounds: 0,
+        worst: 0,
+        interior: 0,
+        depth: 0,
+    }
+}
+
+// Reads a session: its header is handed back, its values are stored. All checks come before the first store.
+pub fn read(bytes: &[u8], values: &mut [i32]) -> Session
+    ensures { λ r. ⌜ ReadOf (now (bytes .entry)) (now (values .entry)) r (now (values .exit)) ⌝ }
+{
+    match judge_session(bytes, values.len()) {
+        Judged::Refused(number, place) => {
+            let answer = refusal(number, place);
+            Session {
+                answer,
+                sides: Sides {
+                    nx: 0,
+                    ny: 0,
+                    nz: 0,
+                },
+                order: Order::Big,
+                settings: Settings {
+                    tolerance: 0,
+                    levels: 0,
+                    rounds: 0,
+                },
+            }
+        }
+        Judged::Passed(h) => {
+            let sides = h.sides;
+            let order = h.order;
+            let settings = h.settings;
+            let start = h.start;
+            let n = cells_of(sides);
+            let body = rest(bytes, start);
+            store_values(body, n, order, values);
+            let answer = refusal(0, 0);
+            Session {
+                answer,
+                sides,
+                order,
+                settings,
+            }
+        }
+    }
+}
+
+// The label part of a session that is read with room for so many values: no copy. Nothing where the reader refuses it.
+pub fn labels(bytes: &[u8], room: usize) -> &[u8]
+    ensures { λ r. ⌜ now r ≡ reading (asked (now (bytes .entry)) room) .labels ⌝ }
+{
+    match judge_session(bytes, room) {
+        Judged::Refused(_, _) => &bytes[..0],
+        Judged::Passed(h) => {
+            let sides = h.sides;
+            let start = h.start;
+            let end = start + cells_of(sides);
+            &bytes[start..end]
+        }
+    }
+}
+
+// Writes a session at the front of the output. All checks come before the first store.
+pub fn write(
+    sides: Sides,
+    order: Order,
+    settings: Settings,
+    labels: &[u8],
+    values: &[i32],
+    output: &mut [u8],
+) -> Written
+    ensures { λ r. ⌜ WriteOf sides order settings (now (labels .entry)) (now (values .entry)) (now (output .entry)) r (now (output .exit)) ⌝ }
+{
+    match judge_cast(sides, order, settings, labels, values, output.len()) {
+        Ruling::Refused(number, place) => {
+            let answer = refusal(number, place);
+            Written { answer, count: 0 }
+        }
+        Ruling::Allowed => {
+            let count = put_session(sides, order, settings, labels, values, output);
+            let answer = refusal(0, 0);
+            Written { answer, count }
+        }
+    }
+}

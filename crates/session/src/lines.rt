@@ -1,0 +1,79 @@
+// The seven lines of a header.
+ghost use mathlib.Core.Path.{_≡_};
+ghost use Prim.Native.Nat.{_≤_};
+ghost use Rattle.method.specs.Form.{orderOf};
+ghost use Rattle.session.specs.Lines.{ThreeOf, OnFrom, HeaderOf};
+ghost use lib.ListN.{length};
+use crate::Header;
+use crate::HeaderRead;
+use crate::LineRead;
+use crate::ThreeRead;
+use crate::line::number_line;
+use crate::line::order_line;
+use crate::line::rest;
+use method::Order;
+use method::Settings;
+use method::Sides;
+
+// Three lines of numbers, the first of which has the number `first`.
+fn three_lines(bytes: &[u8], first: u32, a: &[u8], b: &[u8], c: &[u8]) -> ThreeRead
+    requires { ⌜ first ≤ 5 ⌝ }
+    ensures { λ r. ⌜ ThreeOf first (now (a .entry)) (now (b .entry)) (now (c .entry)) (now (bytes .entry)) r ⌝ }
+{
+    let LineRead::Value(x, i) = number_line(bytes, a) else {
+        return ThreeRead::Wrong(first);
+    };
+    let second = rest(bytes, i);
+    let LineRead::Value(y, j) = number_line(second, b) else {
+        return ThreeRead::Wrong(first + 1);
+    };
+    let third = rest(second, j);
+    let LineRead::Value(z, k) = number_line(third, c) else {
+        return ThreeRead::Wrong(first + 2);
+    };
+    ThreeRead::Values(x, y, z, i + j + k)
+}
+
+fn order_of(v: u32) -> Order
+    ensures { λ r. ⌜ r ≡ orderOf v ⌝ }
+{
+    if v == 0 { Order::Big } else { Order::Little }
+}
+
+// The line of the order and those of the settings, after the sides and the i bytes that they took.
+fn after_sides(bytes: &[u8], i: usize, sides: Sides) -> HeaderRead
+    requires { ⌜ i ≤ length (now bytes) ⌝ }
+    ensures { λ r. ⌜ OnFrom (now (bytes .entry)) i sides r ⌝ }
+{
+    let fourth = rest(bytes, i);
+    let LineRead::Value(o, j) = order_line(fourth) else {
+        return HeaderRead::Wrong(4);
+    };
+    let fifth = rest(fourth, j);
+    match three_lines(fifth, 5, b"tolerance=", b"levels=", b"rounds=") {
+        ThreeRead::Wrong(k) => HeaderRead::Wrong(k),
+        ThreeRead::Values(tolerance, levels, rounds, k) => {
+            let order = order_of(o);
+            let settings = Settings {
+                tolerance,
+                levels,
+                rounds,
+            };
+            HeaderRead::Named(Header {
+                sides,
+                order,
+                settings,
+                start: i + j + k,
+            })
+        }
+    }
+}
+
+pub(crate) fn header(bytes: &[u8]) -> HeaderRead
+    ensures { λ r. ⌜ HeaderOf (now (bytes .entry)) r ⌝ }
+{
+    match three_lines(bytes, 1, b"nx=", b"ny=", b"nz=") {
+        ThreeRead::Wrong(k) => HeaderRead::Wrong(k),
+        ThreeRead::Values(nx, ny, nz, i) => after_sides(bytes, i, Sides { nx, ny, nz }),
+    }
+}

@@ -1,0 +1,137 @@
+// The bytes of a session, put one part after the other.
+ghost use mathlib.Core.Path.{_≡_};
+ghost use mathlib.Core.List.{[], _∷_, _++_, flatMap};
+ghost use Prim.Native.Nat.{_+_, _*_, _/_, _%_, _<_, _≤_};
+ghost use lib.ListN.{length};
+ghost use Rattle.method.specs.Form.{decimal, line, orderWord, headerWritten, valueWritten, written};
+ghost use Rattle.laws.specs.Text.{text};
+ghost use Rattle.session.specs.Puts.{Put, sideLines, settingLines};
+use crate::decimal::put_decimal;
+use crate::value::word_of;
+use method::Order;
+use method::Settings;
+use method::Sides;
+
+// Puts bytes at a place, and answers the place after them.
+fn put_bytes(output: &mut [u8], at: usize, bytes: &[u8]) -> usize
+    requires { ⌜ at + length (now bytes) ≤ length (now output) ⌝ }
+    ensures { λ r. ⌜ Put (now (bytes .entry)) (now (output .entry)) at (now (output .exit)) r ⌝ }
+{
+    let mut i = 0;
+    while i < bytes.len() {
+        output[at + i] = bytes[i];
+        i += 1;
+    }
+    at + bytes.len()
+}
+
+fn put_line(output: &mut [u8], at: usize, key: &[u8], n: u32) -> usize
+    requires { ⌜ at + length (line (now key) (decimal n)) ≤ length (now output) ⌝ }
+    ensures { λ r. ⌜ Put (line (now (key .entry)) (decimal n)) (now (output .entry)) at (now (output .exit)) r ⌝ }
+{
+    let word = put_bytes(output, at, key);
+    let end = put_decimal(output, word, n);
+    put_bytes(output, end, b"\n")
+}
+
+fn put_order(output: &mut [u8], at: usize, order: Order) -> usize
+    requires { ⌜ at + length (line (text "order=") (orderWord order)) ≤ length (now output) ⌝ }
+    ensures { λ r. ⌜ Put (line (text "order=") (orderWord order)) (now (output .entry)) at (now (output .exit)) r ⌝ }
+{
+    match order {
+        Order::Big => put_bytes(output, at, b"order=big\n"),
+        Order::Little => put_bytes(output, at, b"order=little\n"),
+    }
+}
+
+fn put_sides(output: &mut [u8], at: usize, sides: Sides) -> usize
+    requires { ⌜ at + length (sideLines sides) ≤ length (now output) ⌝ }
+    ensures { λ r. ⌜ Put (sideLines sides) (now (output .entry)) at (now (output .exit)) r ⌝ }
+{
+    let second = put_line(output, at, b"nx=", sides.nx);
+    let third = put_line(output, second, b"ny=", sides.ny);
+    put_line(output, third, b"nz=", sides.nz)
+}
+
+fn put_settings(output: &mut [u8], at: usize, settings: Settings) -> usize
+    requires { ⌜ at + length (settingLines settings) ≤ length (now output) ⌝ }
+    ensures { λ r. ⌜ Put (settingLines settings) (now (output .entry)) at (now (output .exit)) r ⌝ }
+{
+    let second = put_line(output, at, b"tolerance=", settings.tolerance);
+    let third = put_line(output, second, b"levels=", settings.levels);
+    put_line(output, third, b"rounds=", settings.rounds)
+}
+
+fn put_header(output: &mut [u8], at: usize, sides: Sides, order: Order, settings: Settings) -> usize
+    requires { ⌜ at + length (headerWritten sides order settings) ≤ length (now output) ⌝ }
+    ensures { λ r. ⌜ Put (headerWritten sides order settings) (now (output .entry)) at (now (output .exit)) r ⌝ }
+{
+    let fourth = put_sides(output, at, sides);
+    let fifth = put_order(output, fourth, order);
+    put_settings(output, fifth, settings)
+}
+
+fn put_four(output: &mut [u8], at: usize, a: u8, b: u8, c: u8, d: u8) -> usize
+    requires { ⌜ at + 4 ≤ length (now output) ⌝ }
+    ensures { λ r. ⌜ Put (a ∷ b ∷ c ∷ d ∷ []) (now (output .entry)) at (now (output .exit)) r ⌝ }
+{
+    output[at] = a;
+    output[at + 1] = b;
+    output[at + 2] = c;
+    output[at + 3] = d;
+    at + 4
+}
+
+// The byte of a word that stands k bytes above the least, with `unit` 256 to the k.
+fn byte_of(w: u32, unit: u32) -> u8
+    requires { ⌜ 0 < unit ⌝ }
+    ensures { λ r. ⌜ r ≡ w / unit % 256 ⌝ }
+{
+    (w / unit % 256) as u8
+}
+
+fn put_value(output: &mut [u8], at: usize, order: Order, v: i32) -> usize
+    requires { ⌜ at + 4 ≤ length (now output) ⌝ }
+    ensures { λ r. ⌜ Put (valueWritten order v) (now (output .entry)) at (now (output .exit)) r ⌝ }
+{
+    let w = word_of(v);
+    let a = byte_of(w, 16777216);
+    let b = byte_of(w, 65536);
+    let c = byte_of(w, 256);
+    let d = byte_of(w, 1);
+    match order {
+        Order::Big => put_four(output, at, a, b, c, d),
+        Order::Little => put_four(output, at, d, c, b, a),
+    }
+}
+
+fn put_values(output: &mut [u8], at: usize, order: Order, values: &[i32]) -> usize
+    requires { ⌜ at + 4 * length (now values) ≤ length (now output) ⌝ }
+    ensures { λ r. ⌜ Put (flatMap (valueWritten order) (now (values .entry))) (now (output .entry)) at (now (output .exit)) r ⌝ }
+{
+    let mut next = at;
+    let mut i = 0;
+    while i < values.len() {
+        let v = values[i];
+        next = put_value(output, next, order, v);
+        i += 1;
+    }
+    next
+}
+
+// Puts a whole session at the front, and answers how many bytes it has.
+pub(crate) fn put_session(
+    sides: Sides,
+    order: Order,
+    settings: Settings,
+    labels: &[u8],
+    values: &[i32],
+    output: &mut [u8],
+) -> usize
+    requires { ⌜ length (written (record { sides = sides; labels = now labels; values = now values }) order settings) ≤ length (now output) ⌝ }
+    ensures { λ r. ⌜ Put (written (record { sides = sides; labels = now (labels .entry); values = now (values .entry) }) order settings) (now (output .entry)) 0 (now (output .exit)) r ⌝ }
+{
+    let body = put_header(output, 0, sides, order, settings);
+    let tail = put_bytes(output, body, labels);
+    put_values(output, tail, order, values)
+}

@@ -1,0 +1,168 @@
+// Values of four bytes.
+ghost use mathlib.Core.Path.{_≡_};
+ghost use mathlib.Core.List.{[], _∷_};
+ghost use Prim.Native.Nat.{_+_, _*_, _≤_, _<_};
+ghost use lib.Dec.{ltb};
+ghost use lib.IntN.{natAbs};
+ghost use Rattle.laws.specs.Lists.{tab};
+ghost use Rattle.method.specs.Answers.{filled};
+ghost use lib.ListN.{length, take, drop};
+ghost use Rattle.method.specs.Cast.{widest};
+ghost use Rattle.method.specs.Form.{inOrder, mostFirst, twosComplement, wordOf};
+ghost use Rattle.session.specs.Body.{badValueAt, badWrittenAt, firstBadValue, firstBadWritten, valueIn};
+use method::Found;
+use method::Order;
+
+fn wide(b: u8) -> u32
+    ensures { λ r. ⌜ r ≡ b ⌝ }
+{
+    b as u32
+}
+
+// A word from its bytes, the most significant first.
+fn word(a: u8, b: u8, c: u8, d: u8) -> u32
+    ensures { λ r. ⌜ r ≡ mostFirst 0 (a ∷ b ∷ c ∷ d ∷ []) ⌝ }
+{
+    256 * (256 * (256 * wide(a) + wide(b)) + wide(c)) + wide(d)
+}
+
+// The word at a place, in the order that the session names.
+fn word_at(bytes: &[u8], at: usize, order: Order) -> u32
+    requires { ⌜ at + 4 ≤ length (now bytes) ⌝ }
+    ensures { λ r. ⌜ r ≡ mostFirst 0 (inOrder order (take 4 (drop at (now (bytes .entry))))) ⌝ }
+{
+    let a = bytes[at];
+    let b = bytes[at + 1];
+    let c = bytes[at + 2];
+    let d = bytes[at + 3];
+    match order {
+        Order::Big => word(a, b, c, d),
+        Order::Little => word(d, c, b, a),
+    }
+}
+
+// A word as a signed number, in two's complement.
+fn signed(w: u32) -> i32
+    ensures { λ r. ⌜ r ≡ twosComplement w ⌝ }
+{
+    if w < 2147483648 {
+        w as i32
+    } else {
+        -1 - (4294967295 - w) as i32
+    }
+}
+
+// A signed number as a word.
+pub(crate) fn word_of(v: i32) -> u32
+    ensures { λ r. ⌜ r ≡ wordOf v ⌝ }
+{
+    if v < 0 {
+        4294967295 - (-1 - v) as u32
+    } else {
+        v as u32
+    }
+}
+
+// The size of the number that a word is.
+fn word_size(w: u32) -> u32
+    ensures { λ r. ⌜ r ≡ natAbs (twosComplement w) ⌝ }
+{
+    if w < 2147483648 {
+        w
+    } else {
+        4294967295 - w + 1
+    }
+}
+
+// The greatest size of a value beside a label.
+fn widest_at(label: u8) -> u32
+    ensures { λ r. ⌜ r ≡ widest label ⌝ }
+{
+    if label == 0 {
+        1000
+    } else if label == 1 {
+        1000000
+    } else {
+        0
+    }
+}
+
+// Whether a word is a value out of its label's range.
+pub(crate) fn is_wide(label: u8, w: u32) -> bool
+    ensures { λ r. ⌜ r ≡ ltb (widest label) (natAbs (twosComplement w)) ⌝ }
+{
+    widest_at(label) < word_size(w)
+}
+
+// Whether the value of cell c of a body of n cells is out of its label's range.
+fn bad_value_at(body: &[u8], n: usize, order: Order, c: usize) -> bool
+    requires { ⌜ (c < n) × (length (now body) ≡ 5 * n) ⌝ }
+    ensures { λ r. ⌜ r ≡ badValueAt (now (body .entry)) n order c ⌝ }
+{
+    let label = body[c];
+    let w = word_at(body, n + 4 * c, order);
+    is_wide(label, w)
+}
+
+// The first cell of a body of n cells whose value is out of its label's range.
+pub(crate) fn bad_value(body: &[u8], n: usize, order: Order) -> Found
+    requires { ⌜ (n ≤ 32768) × (length (now body) ≡ 5 * n) ⌝ }
+    ensures { λ r. ⌜ r ≡ firstBadValue (now (body .entry)) n order ⌝ }
+{
+    let mut c = 0;
+    while c < n {
+        if bad_value_at(body, n, order, c) {
+            return Found::At(c as u32);
+        }
+        c += 1;
+    }
+    Found::Nowhere
+}
+
+// Whether the value of cell c is out of its label's range.
+fn bad_written_at(labels: &[u8], values: &[i32], c: usize) -> bool
+    requires { ⌜ (c < length (now labels)) × (c < length (now values)) ⌝ }
+    ensures { λ r. ⌜ r ≡ badWrittenAt (now (labels .entry)) (now (values .entry)) c ⌝ }
+{
+    let label = labels[c];
+    let v = values[c];
+    let w = word_of(v);
+    is_wide(label, w)
+}
+
+// The first of n cells whose value is out of its label's range.
+pub(crate) fn bad_written(labels: &[u8], values: &[i32], n: usize) -> Found
+    requires { ⌜ (n ≤ 32768) × ((length (now labels) ≡ n) × (length (now values) ≡ n)) ⌝ }
+    ensures { λ r. ⌜ r ≡ firstBadWritten (now (labels .entry)) (now (values .entry)) n ⌝ }
+{
+    let mut c = 0;
+    while c < n {
+        if bad_written_at(labels, values, c) {
+            return Found::At(c as u32);
+        }
+        c += 1;
+    }
+    Found::Nowhere
+}
+
+// The value of cell c of a body of n cells.
+fn value_at(body: &[u8], n: usize, order: Order, c: usize) -> i32
+    requires { ⌜ (c < n) × (length (now body) ≡ 5 * n) ⌝ }
+    ensures { λ r. ⌜ r ≡ valueIn (now (body .entry)) n order c ⌝ }
+{
+    let w = word_at(body, n + 4 * c, order);
+    signed(w)
+}
+
+// All values of a body of n cells, stored.
+pub(crate) fn store_values(body: &[u8], n: usize, order: Order, values: &mut [i32])
+    requires { ⌜ (n ≤ length (now values)) × (length (now body) ≡ 5 * n) ⌝ }
+    ensures { λ _. ⌜ now (values .exit) ≡ filled n (tab n (valueIn (now (body .entry)) n order)) (now (values .entry)) ⌝ }
+{
+    let mut c = 0;
+    while c < n {
+        let v = value_at(body, n, order, c);
+        values[c] = v;
+        c += 1;
+    }
+}
