@@ -1,0 +1,34 @@
+"""Runs a built program of ours: as it is on x86-64, under the kit's emulator where there is one."""
+import os
+import platform
+import shutil
+import subprocess
+
+ROOT = os.path.dirname(os.path.dirname(os.path.abspath(__file__)))
+
+
+def command(name):
+    """The words that run target/bin/NAME. The kit is the parent of the folder in which the resolved rt stands."""
+    kit = os.path.dirname(os.path.dirname(os.path.realpath(shutil.which("rt"))))
+    tools = os.path.join(kit, "on", platform.machine(), "toolchain")
+    emulator = os.path.join(tools, "bin", "qemu-x86_64")
+    first = [emulator] if os.path.exists(emulator) else []
+    library = os.path.join(tools, "lib")
+    return first + [os.path.join(library, "ld-linux-x86-64.so.2"), "--library-path", library, os.path.join(ROOT, "target", "bin", name)]
+
+
+def run(words, given):
+    return subprocess.run(words, input=given, stdout=subprocess.PIPE, check=True).stdout.decode("ascii")
+
+
+def first_difference(ours, theirs):
+    """The first line in which two prints differ, with the last session= or call before it; None where they are equal."""
+    where = "the beginning"
+    a, b = ours.split("\n"), theirs.split("\n")
+    for k in range(max(len(a), len(b))):
+        x, y = (a[k] if k < len(a) else "(nothing)"), (b[k] if k < len(b) else "(nothing)")
+        if x != y:
+            return f"after {where}: ours {x[:200]}, the separate implementation's {y[:200]}"
+        if x.split("=")[0] in ("session", "writer", "reader"):
+            where = x
+    return None
