@@ -53,11 +53,11 @@ module _ (g : Sides) where
   before-grows k zero = let q : 0 + k ≡ k = omega arith in rw q (omega arith)
   before-grows k (suc m) = let q : suc m + k ≡ suc (m + k) = omega arith in rw q (omega (arith, before-grows k m))
 
-  before-up-to : (k m : ℕ) → k ≤ m → cellsBefore g k ≤ cellsBefore g m
+  pub before-up-to : (k m : ℕ) → k ≤ m → cellsBefore g k ≤ cellsBefore g m
   before-up-to k m h = let q : m - k + k ≡ m = omega arith in rw q at (before-grows k (m - k))
 
 -- a part that lies in the first of two lists
-part-left : (x y : List ℕ) (b n : ℕ) → b + n ≤ length x → take n (drop b (x ++ y)) ≡ take n (drop b x)
+pub part-left : (x y : List ℕ) (b n : ℕ) → b + n ≤ length x → take n (drop b (x ++ y)) ≡ take n (drop b x)
 part-left x y b n h = ap (take n) (drop-append-le b x y (omega arith)) ∙ take-append-le n (drop b x) y (omega (arith, length-drop b x))
 
 module _ (g : Sides) (ls : List ℕ) (long : length ls ≡ cells g) where

@@ -1,0 +1,129 @@
+-- What a caller of `cycle` needs: that the rooms which `all_labels` and `all_lists` leave are prepared, and that the promise is one result. Assumes nothing.
+use Prim.Native.Nat.{ℕ, zero, suc, _+_, _*_, _≤_, _<_}
+use mathlib.Core.Path.{_≡_, refl, sym, ap, ap₂, subst, _∙_}
+use mathlib.Core.Logic.{⊎-elim}
+use mathlib.Core.Bool.{cond}
+use mathlib.Core.List.{List, _++_}
+use native.Mathlib.Nat.{le-of-suc-le-suc, eq-or-lt-of-le}
+use native.Mathlib.Omega.{arith}
+use borrow.Author.Tests.{lt-ltb}
+use lib.Dec.{ltb}
+use lib.ListN.{length, getD, take, drop, length-append}
+use lib.Seq.{drop-at, take-length}
+use lib.Ieee.{Float}
+use Rattle.laws.proofs.Lists.{getD-tab}
+use Rattle.method.specs.declared.Sides.{Sides}
+use Rattle.method.specs.Cast.{cells}
+use Rattle.theory.specs.Levels.{airBefore}
+use Rattle.theory.proofs.Sides.{Fit, fits}
+use Rattle.theory.proofs.Sizes.{cells-of-six}
+use Rattle.levels.specs.declared.sides.Levels.{Levels}
+use Rattle.levels.specs.declared.lists.Lists.{Lists}
+use Rattle.levels.specs.Rooms.{written}
+use Rattle.levels.specs.Levels.{base}
+use Rattle.levels.specs.AllLabels.{LabelsAsked, allLabels}
+use Rattle.levels.specs.AllLists.{baseLabels, listAt, listsBefore, firsts, listsTo, AllListed, ListsAsked}
+use Rattle.levels.proofs.Calls.{part-left, lists-asked}
+use Rattle.levels.proofs.Labelled.{room-enough}
+use Rattle.smooth.specs.Fields.{u-of, b-of}
+use Rattle.cycle.specs.Strokes.{Put}
+use Rattle.cycle.proofs.Levels.{fields-all}
+use Rattle.cycle.specs.Rooms.{listFrom, Prepared, fieldsFrom, Ready, cellsOf, Cycled}
+
+-- ---- each level's list, in the room that `all_lists` leaves
+module _ (g : Sides) (ls : List ℕ) (count : ℕ) where
+  abbrev before : ℕ → List ℕ
+  before k = listsBefore g ls count k
+
+  abbrev here : ℕ → List ℕ
+  here k = listAt g ls count k
+
+  lists-inside : (m k : ℕ) → k < m → length (before k) + length (here k) ≤ length (before m)
+  unfolding listsBefore
+  lists-inside zero k h = absurd (omega arith)
+  lists-inside (suc m) k h = ⊎-elim
+      (λ e. rw e (omega (arith, length-append (before m) (here m))))
+      (λ l. omega (arith, length-append (before m) (here m), lists-inside m k l))
+      (eq-or-lt-of-le (le-of-suc-le-suc h))
+
+  abbrev Part : ℕ → ℕ → Type 0
+  Part m k = take (length (here k)) (drop (length (before k)) (before m)) ≡ here k
+
+  list-part : (m k : ℕ) → k < m → Part m k
+  unfolding listsBefore
+  list-part zero k h = absurd (omega arith)
+  list-part (suc m) k h = ⊎-elim
+      (λ e. subst (Part (suc m)) (sym e) (ap (take (length (here m))) (drop-at (before m) (here m) (length (before m)) refl) ∙ take-length (here m)))
+      (λ l. part-left (before m) (here m) (length (before k)) (length (here k)) (lists-inside m k l) ∙ list-part m k l)
+      (eq-or-lt-of-le (le-of-suc-le-suc h))
+
+-- ---- the table of starts and lengths
+first-at : (f : ℕ → ℕ) (count k : ℕ) → count ≤ 6 → k < count → getD (firsts f count) k 0 ≡ f k
+unfolding firsts
+first-at f count k six h =
+    getD-tab 6 (λ j. cond (ltb j count) (f j) 0) k 0 (omega arith) ∙ ap (λ b. cond b (f k) 0) (lt-ltb k count h)
+
+-- ---- THE ROOMS ARE PREPARED
+module _ (l : Levels) (count : ℕ) (bytes e words : List ℕ) (s : Lists) (a : ListsAsked l count bytes (length e)) (least : 1 ≤ count)
+    (long : length words ≡ length e) (p : AllListed (base l) (baseLabels l bytes) count e s words) where
+  start-at : (k : ℕ) → k < count → getD (s .start) k 0 ≡ length (listsBefore (base l) (baseLabels l bytes) count k)
+  unfolding listsTo
+  start-at k h = ap (λ (t : Lists). getD (t .start) k 0) (p .lists) ∙ first-at (λ j. length (listsBefore (base l) (baseLabels l bytes) count j)) count k (a .most) h
+
+  count-at : (k : ℕ) → k < count → getD (s .count) k 0 ≡ length (listAt (base l) (baseLabels l bytes) count k)
+  unfolding listsTo
+  count-at k h = ap (λ (t : Lists). getD (t .count) k 0) (p .lists) ∙ first-at (λ j. length (listAt (base l) (baseLabels l bytes) count j)) count k (a .most) h
+
+  words-are : words ≡ listsBefore (base l) (baseLabels l bytes) count count ++ drop (0 + length (listsBefore (base l) (baseLabels l bytes) count count)) e
+  unfolding written
+  words-are = p .room
+
+  words-long : length (listsBefore (base l) (baseLabels l bytes) count count) ≤ length words
+  words-long = omega (
+    arith,
+    ap length words-are,
+    length-append (listsBefore (base l) (baseLabels l bytes) count count) (drop (0 + length (listsBefore (base l) (baseLabels l bytes) count count)) e),
+  )
+
+  pub prepared : Prepared l s count bytes words
+  unfolding listFrom
+  prepared = record {
+    fit = a .fit;
+    laid = a .laid;
+    least = least;
+    most = a .most;
+    inside = room-enough (base l) (length bytes) count (a .fit) (a .full) (a .most);
+    labels = a .labels;
+    ends = λ k h. omega (arith, start-at k h, count-at k h, lists-inside (base l) (baseLabels l bytes) count count k h, words-long);
+    lists = λ k h.
+        ap₂ (λ n b. take n (drop b words)) (count-at k h) (start-at k h)
+        ∙ ap (λ x. take (length (listAt (base l) (baseLabels l bytes) count k)) (drop (length (listsBefore (base l) (baseLabels l bytes) count k)) x)) words-are
+        ∙ part-left (listsBefore (base l) (baseLabels l bytes) count count) (drop (0 + length (listsBefore (base l) (baseLabels l bytes) count count)) e)
+        (length (listsBefore (base l) (baseLabels l bytes) count k)) (length (listAt (base l) (baseLabels l bytes) count k)) (lists-inside (base l) (baseLabels l bytes) count count k h)
+        ∙ list-part (base l) (baseLabels l bytes) count count k h;
+  }
+
+-- the same from the labels as `all_labels` was given and left them
+pub prepared-from : (l : Levels) (count : ℕ) (ls old bytes e words : List ℕ) (s : Lists) → LabelsAsked l count (length ls) (length old)
+    → bytes ≡ written old 0 (allLabels (base l) ls count) → length bytes ≡ length old → airBefore (base l) ls count ≤ length e → length words ≡ length e
+    → AllListed (base l) (baseLabels l bytes) count e s words → Prepared l s count bytes words
+prepared-from l count ls old bytes e words s a b k room long p = prepared l count bytes e words s (lists-asked l count ls old bytes a b (length e) k room) (a .least) long p
+
+-- level 0 of what is prepared
+pub ready-first : (l : Levels) (s : Lists) (count : ℕ) (bytes words : List ℕ) (r : ℕ) → Prepared l s count bytes words → fieldsFrom (base l) count 0 ≤ r
+    → Ready l s count 0 bytes words r
+ready-first l s count bytes words r p h = record { prepared = p; below = omega (arith, p .least); roomy = h }
+
+-- how much room six levels' fields take
+pub fields-most : (g : Sides) (count : ℕ) → Fit g → count ≤ 6 → fieldsFrom g count 0 ≤ 6 * cells g + 15
+fields-most g count z h = omega (arith, fields-all g count, cells-of-six g (fits g z) count h)
+
+-- ---- THE PROMISE IS ONE RESULT, as far as it goes: u, b, all beyond, and the length
+module _ {n m : ℕ} {v e x y : List Float} where
+  pub put-one : Put n m v e x → Put n m v e y → (u-of n x ≡ u-of n y) × (b-of n x ≡ b-of n y) × (drop m x ≡ drop m y) × (length x ≡ length y)
+  put-one p q = (p .u ∙ sym (q .u), p .b ∙ sym (q .b), p .beyond ∙ sym (q .beyond), p .long ∙ sym (q .long))
+
+pub cycled-one : (l : Levels) (bytes : List ℕ) (count k : ℕ) (e x y : List Float) → Cycled l bytes count k e x → Cycled l bytes count k e y
+    → (u-of (cellsOf l k) x ≡ u-of (cellsOf l k) y) × (b-of (cellsOf l k) x ≡ b-of (cellsOf l k) y)
+    × (drop (fieldsFrom (base l) count k) x ≡ drop (fieldsFrom (base l) count k) y) × (length x ≡ length y)
+cycled-one l bytes count k e x y p q = put-one p q

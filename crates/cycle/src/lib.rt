@@ -1,0 +1,171 @@
+// The V-cycle in binary64, in the lent rooms: each level works on u, b and t at the front of its part of the room, and lends
+// what follows to the next coarser level.
+ghost use mathlib.Core.Path.{_≡_};
+ghost use Prim.Native.Nat.{_+_, _*_, _≤_, _<_};
+ghost use lib.ListN.{length};
+ghost use Rattle.method.specs.Cast.{cells, isAir};
+ghost use Rattle.method.specs.Levels.{inBand};
+ghost use Rattle.method.specs.Cycle.{sweeps, zeros, coarsest, downstroke};
+ghost use Rattle.levels.specs.AllLists.{partIn};
+ghost use Rattle.smooth.specs.Fields.{u-of, b-of, Level};
+ghost use Rattle.smooth.specs.Sweeps.{Below, chosen};
+ghost use Rattle.transfer.specs.Transfer.{TwoLevels};
+ghost use Rattle.cycle.specs.Strokes.{sweepTurn, sweptRoom, Put, rising, Lowered};
+ghost use Rattle.cycle.specs.Rooms.{listFrom, Ready, Cycled, Corrected, LabelsAt, ListAt};
+use levels::lists::Lists;
+use levels::sides::Levels;
+use method::Sides;
+
+// One sweep over a list of cells, forward or against the list's order.
+fn sweep(room: &mut [f64], labels: &[u8], list: &[u32], g: Sides, forward: bool)
+    requires { ⌜ Level g (now labels) (now room) ⌝ }
+    requires { ⌜ Below (cells g) (now list) ⌝ }
+    ensures { λ _. ⌜ now (room .exit) ≡ sweepTurn forward g (now (labels .entry)) (now (list .entry)) (now (room .entry)) ⌝ }
+{
+    if forward {
+        smooth::sweep_up(room, labels, list, g);
+    } else {
+        smooth::sweep_down(room, labels, list, g);
+    }
+}
+
+// That many sweeps.
+fn sweep_times(room: &mut [f64], labels: &[u8], list: &[u32], g: Sides, forward: bool, count: usize)
+    requires { ⌜ Level g (now labels) (now room) ⌝ }
+    requires { ⌜ Below (cells g) (now list) ⌝ }
+    ensures { λ _. ⌜ now (room .exit) ≡ sweptRoom count forward g (now (labels .entry)) (now (list .entry)) (now (room .entry)) ⌝ }
+{
+    let mut i = 0;
+    while i < count {
+        sweep(room, labels, list, g, forward);
+        i += 1;
+    }
+}
+
+// The band of level k is swept 2^(k+1) times in each stroke.
+fn sweep_count(k: usize) -> usize
+    requires { ⌜ k < 6 ⌝ }
+    ensures { λ r. ⌜ r ≡ sweeps k ⌝ }
+{
+    let mut n = 2;
+    let mut i = 0;
+    while i < k {
+        n = n + n;
+        i += 1;
+    }
+    n
+}
+
+// The coarsest level, from u = 0: 8 ascending and 8 descending sweeps over its air cells.
+fn coarsest(room: &mut [f64], labels: &[u8], list: &[u32], g: Sides)
+    requires { ⌜ Level g (now labels) (now room) ⌝ }
+    requires { ⌜ now list ≡ chosen (isAir (now labels)) (cells g) ⌝ }
+    requires { ⌜ u-of (cells g) (now room) ≡ zeros g ⌝ }
+    ensures { λ _. ⌜ Put (cells g) (3 * cells g) (coarsest g (now (labels .entry)) (b-of (cells g) (now (room .entry)))) (now (room .entry)) (now (room .exit)) ⌝ }
+{
+    sweep_times(room, labels, list, g, true, 8);
+    sweep_times(room, labels, list, g, false, 8);
+}
+
+// A level's first half, from u = 0: one Jacobi, then ascending sweeps of the band.
+fn downstroke(room: &mut [f64], labels: &[u8], list: &[u32], g: Sides, k: usize)
+    requires { ⌜ k < 6 ⌝ }
+    requires { ⌜ Level g (now labels) (now room) ⌝ }
+    requires { ⌜ now list ≡ chosen (inBand g (now labels)) (cells g) ⌝ }
+    requires { ⌜ u-of (cells g) (now room) ≡ zeros g ⌝ }
+    ensures { λ _. ⌜ Put (cells g) (3 * cells g) (downstroke k g (now (labels .entry)) (b-of (cells g) (now (room .entry)))) (now (room .entry)) (now (room .exit)) ⌝ }
+{
+    smooth::jacobi(room, labels, g);
+    sweep_times(room, labels, list, g, true, sweep_count(k));
+}
+
+// A level's second half, from the corrected u: descending sweeps of the band, then one Jacobi.
+fn upstroke(room: &mut [f64], labels: &[u8], list: &[u32], g: Sides, k: usize)
+    requires { ⌜ k < 6 ⌝ }
+    requires { ⌜ Level g (now labels) (now room) ⌝ }
+    requires { ⌜ now list ≡ chosen (inBand g (now labels)) (cells g) ⌝ }
+    ensures { λ _. ⌜ Put (cells g) (3 * cells g) (rising k g (now (labels .entry)) (b-of (cells g) (now (room .entry))) (u-of (cells g) (now (room .entry)))) (now (room .entry)) (now (room .exit)) ⌝ }
+{
+    sweep_times(room, labels, list, g, false, sweep_count(k));
+    smooth::jacobi(room, labels, g);
+}
+
+// The residual, restricted: the coarser level's b.
+fn lower(room: &mut [f64], labels: &[u8], below: &[u8], g: Sides, h: Sides)
+    requires { ⌜ TwoLevels g h (now labels) (now below) ⌝ }
+    requires { ⌜ 3 * cells g + 3 * cells h ≤ length (now room) ⌝ }
+    ensures { λ _. ⌜ Lowered g h (now (labels .entry)) (now (room .entry)) (now (room .exit)) ⌝ }
+{
+    smooth::residual(room, labels, g);
+    transfer::restriction::restrict(room, labels, below, g, h);
+}
+
+// The labels of level k.
+fn level_labels(bytes: &[u8], l: Levels, k: usize) -> &[u8]
+    requires { ⌜ LabelsAt l k (length (now bytes)) ⌝ }
+    ensures { λ r. ⌜ now r ≡ partIn l k (now (bytes .entry)) ⌝ }
+{
+    let from = l.start[k];
+    let to = from + grid::place::cell_count(levels::sides::sides_at(l, k));
+    &bytes[from..to]
+}
+
+// The list of level k.
+fn level_list(words: &[u32], s: Lists, k: usize) -> &[u32]
+    requires { ⌜ ListAt s k (length (now words)) ⌝ }
+    ensures { λ r. ⌜ now r ≡ listFrom s k (now (words .entry)) ⌝ }
+{
+    let from = s.start[k];
+    let to = from + s.count[k];
+    &words[from..to]
+}
+
+// The cycle of level k of count levels, on a room that starts with the level's fields: u from b.
+pub fn cycle(
+    room: &mut [f64],
+    bytes: &[u8],
+    words: &[u32],
+    l: Levels,
+    s: Lists,
+    count: usize,
+    k: usize,
+)
+    requires { ⌜ Ready l s count k (now bytes) (now words) (length (now room)) ⌝ }
+    ensures { λ _. ⌜ Cycled l (now (bytes .entry)) count k (now (room .entry)) (now (room .exit)) ⌝ }
+{
+    let g = levels::sides::sides_at(l, k);
+    let labels = level_labels(bytes, l, k);
+    let list = level_list(words, s, k);
+    smooth::clear_u(room, g);
+    if k + 1 < count {
+        downstroke(room, labels, list, g, k);
+        coarse_correction(room, bytes, words, l, s, count, k);
+        upstroke(room, labels, list, g, k);
+    } else {
+        coarsest(room, labels, list, g);
+    }
+}
+
+// The correction of level k by the next coarser level's cycle, which is lent the rest of the room.
+fn coarse_correction(
+    room: &mut [f64],
+    bytes: &[u8],
+    words: &[u32],
+    l: Levels,
+    s: Lists,
+    count: usize,
+    k: usize,
+)
+    requires { ⌜ Ready l s count k (now bytes) (now words) (length (now room)) ⌝ }
+    requires { ⌜ k + 1 < count ⌝ }
+    ensures { λ _. ⌜ Corrected l (now (bytes .entry)) count k (now (room .entry)) (now (room .exit)) ⌝ }
+{
+    let g = levels::sides::sides_at(l, k);
+    let h = levels::sides::sides_at(l, k + 1);
+    let labels = level_labels(bytes, l, k);
+    let below = level_labels(bytes, l, k + 1);
+    lower(room, labels, below, g, h);
+    let start = 3 * labels.len();
+    cycle(&mut room[start..], bytes, words, l, s, count, k + 1);
+    transfer::prolongation::correct(room, labels, below, g, h);
+}
