@@ -1,7 +1,7 @@
 -- Laws of the seven lines. Assumes nothing.
-use mathlib.Core.Path.{_≡_, refl, sym, ap, ap₂, _∙_}
+use mathlib.Core.Path.{_≡_, refl, sym, ap, _∙_}
 use mathlib.Core.List.{List, [], _∷_, _++_}
-use Prim.Native.Nat.{ℕ, zero, suc, _+_, _-_, _^_, _≤_, _<_}
+use Prim.Native.Nat.{ℕ, zero, suc, _+_, _^_, _≤_, _<_}
 use native.Mathlib.Numerals.{add-one}
 use native.Mathlib.Omega.{arith}
 use borrow.Author.Needs.{needs}
@@ -19,7 +19,6 @@ use Rattle.session.specs.declared.LineRead.{LineRead}
 use Rattle.session.specs.declared.LineRead.the-variants.{NotOfForm, Value}
 use Rattle.session.specs.declared.ThreeRead.{ThreeRead}
 use Rattle.session.specs.declared.ThreeRead.the-variants.{Wrong as Wrong3, Values}
-use Rattle.session.specs.declared.Header.{Header}
 use Rattle.session.specs.declared.HeaderRead.{HeaderRead}
 use Rattle.session.specs.declared.HeaderRead.the-variants.{Wrong, Named}
 

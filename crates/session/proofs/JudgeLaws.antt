@@ -1,7 +1,7 @@
 -- Laws of the checks in their order, and of what the reader makes of a judgement. Assumes nothing.
 use mathlib.Core.Path.{_≡_, refl, sym, ap, ap₂, _∙_}
 use mathlib.Core.Bool.{Bool, true, false, not, cond}
-use mathlib.Core.List.{List, [], _∷_, _++_}
+use mathlib.Core.List.{List, [], _∷_}
 use Prim.Native.Nat.{ℕ, zero, suc, _+_, _-_, _*_, _^_, _≤_, _<_}
 use native.Mathlib.Nat.{le-of-suc-le-suc, not-suc-le-zero}
 use native.Mathlib.Omega.{arith}
@@ -13,6 +13,7 @@ use lib.ListN.{length, getD, take, drop, replicate, length-drop, length-replicat
 use lib.Seq.{getD-take}
 use mir.Syntax.{w64}
 use mir.Val.{Fits}
+use Rattle.laws.proofs.Lists.{getD-any}
 use Rattle.laws.specs.Loops.{up}
 use Rattle.laws.specs.Lists.{tab}
 use Rattle.laws.proofs.Lists.{getD-tab}
@@ -22,12 +23,12 @@ use Rattle.method.specs.declared.Order.the-variants.{Big}
 use Rattle.method.specs.declared.Found.{Found}
 use Rattle.method.specs.declared.Found.the-variants.{Nowhere, At}
 use Rattle.method.specs.Cast.{cells, sidesFit, settingsFit, labelAt, widest, orElse, first, badLabel, badValue}
-use Rattle.method.specs.Form.{header, badLine, wrong, headerOf, labelsIn, valuesIn, castIn}
+use Rattle.method.specs.Form.{header, headerOf, labelsIn, valuesIn, castIn}
 use Rattle.method.specs.Form as form
-use Rattle.method.specs.Answers.{Check, check, fault, Verdict, passed, refused, verdict, refusal, done, filled}
+use Rattle.method.specs.Answers.{fault, passed, refused, verdict, refusal, done, filled}
 use Rattle.method.specs.Calls.{Reading, lineCheck, sideCheck, bodyCheck, roomCheck, contentChecks, readerChecks, notRead, isRead, readingBy, reading}
 use Rattle.session.specs.Lines.{named, HeaderOf, headerIn, wrongIn, startIn}
-use Rattle.session.specs.Body.{CellsOf, badLabelAt, firstBadLabel, valueIn, badValueAt, firstBadValue}
+use Rattle.session.specs.Body.{CellsOf, badLabelAt, valueIn, badValueAt}
 use Rattle.session.specs.Reads.{ReadOf, asked, verdictOf, Sized, Ready, ReadyIf, JudgedOf}
 use Rattle.session.specs.Rulings.{rulingOf, rulingBy, firstOf}
 use Rattle.session.specs.declared.Ruling.{Ruling}
@@ -38,7 +39,6 @@ use Rattle.session.specs.declared.HeaderRead.{HeaderRead}
 use Rattle.session.specs.declared.HeaderRead.the-variants.{Wrong, Named}
 use Rattle.session.specs.declared.Judged.{Judged}
 use Rattle.session.specs.declared.Judged.the-variants.{Refused, Passed}
-use Rattle.session.specs.declared.Session.{Session}
 
 -- ---- two tests that agree find the same
 pub first-cong : (f g : ℕ → Bool) (n : ℕ) → ((c : ℕ) → c < n → f c ≡ g c) → first f n ≡ first g n
@@ -47,27 +47,22 @@ first-cong f g zero h = refl
 first-cong f g (suc n) h =
     ap₂ (λ x y. orElse x (cond y (At n) Nowhere)) (first-cong f g n (λ c l. h c (omega arith))) (h n (omega arith))
 
-pub getD-any : {A : Type 0} (l : List A) (j : ℕ) (d e : A) → j < length l → getD l j d ≡ getD l j e
-getD-any [] j d e h = absurd (not-suc-le-zero h)
-getD-any (x ∷ l) zero d e h = refl
-getD-any (x ∷ l) (suc j) d e h = getD-any l j d e (le-of-suc-le-suc h)
-
 -- ---- checks 3, 4, 5 of a header
 module _ (H : form.Header) (n : ℕ) (e : n ≡ cells (H .sides)) (l : n ≤ length (H .body)) where
   label-in : (c : ℕ) → c < n → labelAt (labelsIn H) c ≡ getD (H .body) c 0
   unfolding labelAt labelsIn
   label-in c h = ap (λ k. getD (take k (H .body)) c 2) (sym e) ∙ getD-take n (H .body) c 2 h ∙ getD-any (H .body) c 2 0 (omega arith)
 
-  label-fault : badLabel (H .sides) (labelsIn H) ≡ firstBadLabel (H .body) n
-  unfolding badLabel firstBadLabel badLabelAt
+  label-fault : badLabel (H .sides) (labelsIn H) ≡ first (badLabelAt (H .body)) n
+  unfolding badLabel badLabelAt
   label-fault = ap (first _) (sym e) ∙ first-cong _ _ n (λ c h. ap (ltb 2) (label-in c h))
 
   value-in : (c : ℕ) → c < n → getD (valuesIn H) c (pos 0) ≡ valueIn (H .body) n (H .order) c
   unfolding valuesIn valueIn
   value-in c h = ap (λ k. getD (tab k (λ c. form.valueRead (H .order) (take 4 (drop (k + 4 * c) (H .body))))) c (pos 0)) (sym e) ∙ getD-tab n _ c (pos 0) h
 
-  value-fault : badValue (H .sides) (labelsIn H) (valuesIn H) ≡ firstBadValue (H .body) n (H .order)
-  unfolding badValue firstBadValue badValueAt
+  value-fault : badValue (H .sides) (labelsIn H) (valuesIn H) ≡ first (badValueAt (H .body) n (H .order)) n
+  unfolding badValue badValueAt
   value-fault = ap (first _) (sym e) ∙ first-cong _ _ n (λ c h. ap₂ (λ x y. ltb (widest x) (natAbs y)) (label-in c h) (value-in c h))
 
 -- ---- the content: what the code found at each check
@@ -75,17 +70,17 @@ module _ (bytes : List ℕ) (h : Header) (n : ℕ) (z : Sized bytes h n) where
   settings-of : settingsFit (header bytes .settings) ≡ settingsFit (h .settings)
   settings-of = ap (λ H. settingsFit (H .settings)) (z .is)
 
-  labels-of : (body : List ℕ) → body ≡ drop (h .start) bytes → badLabel (header bytes .sides) (labelsIn (header bytes)) ≡ firstBadLabel body n
+  labels-of : (body : List ℕ) → body ≡ drop (h .start) bytes → badLabel (header bytes .sides) (labelsIn (header bytes)) ≡ first (badLabelAt body) n
   labels-of body b =
-      ap (λ H. badLabel (H .sides) (labelsIn H)) (z .is) ∙ label-fault (named bytes h) n (z .cells) (omega (arith, z .long)) ∙ ap (λ l. firstBadLabel l n) (sym b)
+      ap (λ H. badLabel (H .sides) (labelsIn H)) (z .is) ∙ label-fault (named bytes h) n (z .cells) (omega (arith, z .long)) ∙ ap (λ l. first (badLabelAt l) n) (sym b)
 
-  values-of : (body : List ℕ) → body ≡ drop (h .start) bytes → badValue (header bytes .sides) (labelsIn (header bytes)) (valuesIn (header bytes)) ≡ firstBadValue body n (h .order)
+  values-of : (body : List ℕ) → body ≡ drop (h .start) bytes → badValue (header bytes .sides) (labelsIn (header bytes)) (valuesIn (header bytes)) ≡ first (badValueAt body n (h .order)) n
   values-of body b =
       ap (λ H. badValue (H .sides) (labelsIn H) (valuesIn H)) (z .is) ∙ value-fault (named bytes h) n (z .cells) (omega (arith, z .long))
-      ∙ ap (λ l. firstBadValue l n (h .order)) (sym b)
+      ∙ ap (λ l. first (badValueAt l n (h .order)) n) (sym b)
 
   pub content-ruled : (w : Bool) (body : List ℕ) (x y z : Found) (p q r i o : Ruling) → w ≡ settingsFit (h .settings) → x ≡ fault (not w) → p ≡ rulingBy 3 x
-      → body ≡ drop (h .start) bytes → y ≡ firstBadLabel body n → q ≡ rulingBy 4 y → z ≡ firstBadValue body n (h .order) → r ≡ rulingBy 5 z
+      → body ≡ drop (h .start) bytes → y ≡ first (badLabelAt body) n → q ≡ rulingBy 4 y → z ≡ first (badValueAt body n (h .order)) n → r ≡ rulingBy 5 z
       → i ≡ firstOf q r → o ≡ firstOf p i → verdict contentChecks (asked bytes 0) ≡ rulingOf o
   unfolding contentChecks castIn
   content-ruled w body x y z p q r i o ew ex ep b ey eq ez er ei eo =

@@ -1,24 +1,23 @@
 -- Laws of one line: the key before, the run of digits, the number. Assumes nothing.
 use mathlib.Core.Path.{_≡_, refl, sym, ap, ap₂, _∙_}
-use mathlib.Core.Bool.{Bool, true, false, not, _&&_, _||_, cond, false≢true}
-use mathlib.Core.List.{List, [], _∷_, _++_}
+use mathlib.Core.Bool.{Bool, true, false, not, _&&_, false≢true}
+use mathlib.Core.List.{List, [], _∷_}
 use mathlib.Core.Option.{Option, none, some}
 use Prim.Native.Nat.{ℕ, zero, suc, _+_, _-_, _*_, _^_, _≤_, _<_}
 use native.Mathlib.Nat.{le-of-suc-le-suc, not-suc-le-zero, pow-succ', pow-le-pow-right, lt-of-lt-of-le}
 use native.Mathlib.Numerals.{add-one}
 use native.Mathlib.Omega.{arith}
 use borrow.Author.Needs.{needs}
-use borrow.Author.Tests.{eq-eqb, ne-eqb, lt-ltb, le-ltb, le-leb, lt-leb, leb-true, not-true, not-false}
-use lib.Dec.{T, eqb, leb}
+use borrow.Author.Tests.{eq-eqb, ne-eqb, le-leb, lt-leb, leb-true, not-true, not-false}
+use lib.Dec.{eqb, leb}
 use mir.Syntax.{w64}
 use mir.Val.{Fits}
 use lib.ListN.{length, getD, take, drop, length-drop, drop-of-length-le}
 use lib.Seq.{drop-cons, drop-drop, take-all}
 use Rattle.laws.specs.Text.{text}
 use Rattle.method.specs.Cast.{between}
-use Rattle.method.specs.Form.{Line, bad, good, after, digits, isDigit, isNumber, valueOf, closed, numberLine, orderLine}
+use Rattle.method.specs.Form.{after, digits, isDigit, isNumber, valueOf, closed, numberLine, orderLine}
 use Rattle.session.specs.Lines.{Starts, leftIf, LineOf, lineOf, taken}
-use Rattle.session.specs.declared.LineRead.{LineRead}
 use Rattle.session.specs.declared.LineRead.the-variants.{NotOfForm, Value}
 
 -- ---- the key: its first i bytes stand there

@@ -2,13 +2,13 @@
 use mathlib.Core.Path.{_≡_, refl, sym, ap, ap₂, _∙_}
 use mathlib.Core.Logic.{⊎-elim}
 use Rattle.laws.proofs.Naturals.{le-or-lt}
-use mathlib.Core.List.{List, [], _∷_, _++_, append-assoc, append-nil, flatMap, reverse}
-use Prim.Native.Nat.{ℕ, zero, suc, _+_, _-_, _*_, _/_, _%_, _^_, _≤_, _<_}
-use native.Mathlib.Nat.{mod-lt, mod-eq-of-lt, div-eq-of-lt, div-lt-self, div-one, not-suc-le-zero, le-of-suc-le-suc}
+use mathlib.Core.List.{List, [], _∷_, _++_, append-assoc, append-nil, flatMap}
+use Prim.Native.Nat.{ℕ, zero, suc, _+_, _*_, _/_, _%_, _^_, _≤_, _<_}
+use native.Mathlib.Nat.{mod-lt, mod-eq-of-lt, div-eq-of-lt, div-one, not-suc-le-zero}
 use native.Mathlib.Numerals.{add-one}
 use native.Mathlib.Omega.{arith}
 use borrow.Author.Needs.{needs}
-use lib.ListN.{length, getD, take, drop, set, length-append, length-set}
+use lib.ListN.{length, getD, take, set, length-append, length-set}
 use lib.Seq.{sets, length-sets, take-suc, take-all, length-take-le}
 use lib.IntN.{ℤ, pos}
 use lib.Signed.{mag}
@@ -20,9 +20,8 @@ use Rattle.method.specs.declared.Sides.{Sides}
 use Rattle.method.specs.declared.Settings.{Settings}
 use Rattle.method.specs.declared.Order.{Order}
 use Rattle.method.specs.declared.Order.the-variants.{Big, Little}
-use Rattle.method.specs.Cast.{Cast}
 use Rattle.method.specs.Form.{lastDigit, spelled, decimal, line, orderWord, headerWritten, inOrder, fourBytes, wordOf, valueWritten, written}
-use Rattle.session.specs.Puts.{Put, DigitsOf, sideLines, settingLines}
+use Rattle.session.specs.Puts.{Put, DigitsOf, threeLines}
 
 -- ---- one part after the other
 sets-append : (l xs ys : List ℕ) (i : ℕ) → sets l i (xs ++ ys) ≡ sets (sets l i xs) (i + length xs) ys
@@ -221,64 +220,51 @@ module _ (key : List ℕ) (n : ℕ) (a : List ℕ) (i : ℕ) where
   unfolding line
   line-put b c d j k m p q u = all-put _ _ _ a b c d i j k m p q u
 
--- the sides
-module _ (s : Sides) (a : List ℕ) (i : ℕ) where
-  sides-room : i + length (sideLines s) ≤ length a → i + length (line (text "nx=") (decimal (s .nx)) ++ line (text "ny=") (decimal (s .ny)) ++ line (text "nz=") (decimal (s .nz))) ≤ length a
-  unfolding sideLines
-  sides-room r = r
+-- three lines
+module _ (a : List ℕ) (x : ℕ) (b : List ℕ) (y : ℕ) (c : List ℕ) (z : ℕ) (w : List ℕ) (i : ℕ) where
+  three-room : i + length (threeLines a x b y c z) ≤ length w → i + length (line a (decimal x) ++ line b (decimal y) ++ line c (decimal z)) ≤ length w
+  unfolding threeLines
+  three-room r = r
 
-  pub sides-first : i + length (sideLines s) ≤ length a → i + length (line (text "nx=") (decimal (s .nx))) ≤ length a
-  sides-first r = first-room (line (text "nx=") (decimal (s .nx))) (line (text "ny=") (decimal (s .ny))) (line (text "nz=") (decimal (s .nz))) a i (sides-room r)
+  pub three-first : i + length (threeLines a x b y c z) ≤ length w → i + length (line a (decimal x)) ≤ length w
+  three-first r = first-room (line a (decimal x)) (line b (decimal y)) (line c (decimal z)) w i (three-room r)
 
-  pub sides-second : (b : List ℕ) (j : ℕ) → i + length (sideLines s) ≤ length a → Put (line (text "nx=") (decimal (s .nx))) a i b j → j + length (line (text "ny=") (decimal (s .ny))) ≤ length b
-  sides-second b j r p = second-room (line (text "nx=") (decimal (s .nx))) (line (text "ny=") (decimal (s .ny))) (line (text "nz=") (decimal (s .nz))) a i (sides-room r) b j p
+  pub three-second : (u : List ℕ) (j : ℕ) → i + length (threeLines a x b y c z) ≤ length w → Put (line a (decimal x)) w i u j → j + length (line b (decimal y)) ≤ length u
+  three-second u j r p = second-room (line a (decimal x)) (line b (decimal y)) (line c (decimal z)) w i (three-room r) u j p
 
-  pub sides-third : (b c : List ℕ) (j k : ℕ) → i + length (sideLines s) ≤ length a → Put (line (text "nx=") (decimal (s .nx))) a i b j → Put (line (text "ny=") (decimal (s .ny))) b j c k → k + length (line (text "nz=") (decimal (s .nz))) ≤ length c
-  sides-third b c j k r p q = third-room (line (text "nx=") (decimal (s .nx))) (line (text "ny=") (decimal (s .ny))) (line (text "nz=") (decimal (s .nz))) a i (sides-room r) b j p c k q
+  pub three-third : (u v : List ℕ) (j k : ℕ) → i + length (threeLines a x b y c z) ≤ length w → Put (line a (decimal x)) w i u j → Put (line b (decimal y)) u j v k → k + length (line c (decimal z)) ≤ length v
+  three-third u v j k r p q = third-room (line a (decimal x)) (line b (decimal y)) (line c (decimal z)) w i (three-room r) u j p v k q
 
-  pub sides-put : (b c d : List ℕ) (j k m : ℕ) → Put (line (text "nx=") (decimal (s .nx))) a i b j → Put (line (text "ny=") (decimal (s .ny))) b j c k → Put (line (text "nz=") (decimal (s .nz))) c k d m → Put (sideLines s) a i d m
-  unfolding sideLines
-  sides-put b c d j k m p q u = all-put _ _ _ a b c d i j k m p q u
-
--- the settings
-module _ (t : Settings) (a : List ℕ) (i : ℕ) where
-  settings-room : i + length (settingLines t) ≤ length a → i + length (line (text "tolerance=") (decimal (t .tolerance)) ++ line (text "levels=") (decimal (t .levels)) ++ line (text "rounds=") (decimal (t .rounds))) ≤ length a
-  unfolding settingLines
-  settings-room r = r
-
-  pub settings-first : i + length (settingLines t) ≤ length a → i + length (line (text "tolerance=") (decimal (t .tolerance))) ≤ length a
-  settings-first r = first-room (line (text "tolerance=") (decimal (t .tolerance))) (line (text "levels=") (decimal (t .levels))) (line (text "rounds=") (decimal (t .rounds))) a i (settings-room r)
-
-  pub settings-second : (b : List ℕ) (j : ℕ) → i + length (settingLines t) ≤ length a → Put (line (text "tolerance=") (decimal (t .tolerance))) a i b j → j + length (line (text "levels=") (decimal (t .levels))) ≤ length b
-  settings-second b j r p = second-room (line (text "tolerance=") (decimal (t .tolerance))) (line (text "levels=") (decimal (t .levels))) (line (text "rounds=") (decimal (t .rounds))) a i (settings-room r) b j p
-
-  pub settings-third : (b c : List ℕ) (j k : ℕ) → i + length (settingLines t) ≤ length a → Put (line (text "tolerance=") (decimal (t .tolerance))) a i b j → Put (line (text "levels=") (decimal (t .levels))) b j c k → k + length (line (text "rounds=") (decimal (t .rounds))) ≤ length c
-  settings-third b c j k r p q = third-room (line (text "tolerance=") (decimal (t .tolerance))) (line (text "levels=") (decimal (t .levels))) (line (text "rounds=") (decimal (t .rounds))) a i (settings-room r) b j p c k q
-
-  pub settings-put : (b c d : List ℕ) (j k m : ℕ) → Put (line (text "tolerance=") (decimal (t .tolerance))) a i b j → Put (line (text "levels=") (decimal (t .levels))) b j c k → Put (line (text "rounds=") (decimal (t .rounds))) c k d m → Put (settingLines t) a i d m
-  unfolding settingLines
-  settings-put b c d j k m p q u = all-put _ _ _ a b c d i j k m p q u
+  pub three-put : (u v d : List ℕ) (j k m : ℕ) → Put (line a (decimal x)) w i u j → Put (line b (decimal y)) u j v k → Put (line c (decimal z)) v k d m → Put (threeLines a x b y c z) w i d m
+  unfolding threeLines
+  three-put u v d j k m p q g = all-put _ _ _ w u v d i j k m p q g
 
 -- the header: sides, order, settings
+abbrev pub sideLines : Sides → List ℕ
+sideLines s = threeLines (text "nx=") (s .nx) (text "ny=") (s .ny) (text "nz=") (s .nz)
+
+abbrev pub settingLines : Settings → List ℕ
+settingLines t = threeLines (text "tolerance=") (t .tolerance) (text "levels=") (t .levels) (text "rounds=") (t .rounds)
+
 pub header-parts : (s : Sides) (o : Order) (t : Settings) → headerWritten s o t ≡ sideLines s ++ line (text "order=") (orderWord o) ++ settingLines t
-unfolding headerWritten sideLines settingLines
+unfolding headerWritten threeLines
 header-parts s o t = simp append-assoc
 
-module _ (s : Sides) (o : Order) (t : Settings) (a : List ℕ) (i : ℕ) where
-  header-room : i + length (headerWritten s o t) ≤ length a → i + length (sideLines s ++ line (text "order=") (orderWord o) ++ settingLines t) ≤ length a
+module _ (s : Sides) (o : Order) (t : Settings) (w : List ℕ) (i : ℕ) where
+  header-room : i + length (headerWritten s o t) ≤ length w → i + length (sideLines s ++ line (text "order=") (orderWord o) ++ settingLines t) ≤ length w
   header-room r = rw (header-parts s o t) at r
 
-  pub header-first : i + length (headerWritten s o t) ≤ length a → i + length (sideLines s) ≤ length a
-  header-first r = first-room (sideLines s) (line (text "order=") (orderWord o)) (settingLines t) a i (header-room r)
+  pub header-first : i + length (headerWritten s o t) ≤ length w → i + length (sideLines s) ≤ length w
+  header-first r = first-room (sideLines s) (line (text "order=") (orderWord o)) (settingLines t) w i (header-room r)
 
-  pub header-second : (b : List ℕ) (j : ℕ) → i + length (headerWritten s o t) ≤ length a → Put (sideLines s) a i b j → j + length (line (text "order=") (orderWord o)) ≤ length b
-  header-second b j r p = second-room (sideLines s) (line (text "order=") (orderWord o)) (settingLines t) a i (header-room r) b j p
+  pub header-second : (u : List ℕ) (j : ℕ) → i + length (headerWritten s o t) ≤ length w → Put (sideLines s) w i u j → j + length (line (text "order=") (orderWord o)) ≤ length u
+  header-second u j r p = second-room (sideLines s) (line (text "order=") (orderWord o)) (settingLines t) w i (header-room r) u j p
 
-  pub header-third : (b c : List ℕ) (j k : ℕ) → i + length (headerWritten s o t) ≤ length a → Put (sideLines s) a i b j → Put (line (text "order=") (orderWord o)) b j c k → k + length (settingLines t) ≤ length c
-  header-third b c j k r p q = third-room (sideLines s) (line (text "order=") (orderWord o)) (settingLines t) a i (header-room r) b j p c k q
+  pub header-third : (u v : List ℕ) (j k : ℕ) → i + length (headerWritten s o t) ≤ length w → Put (sideLines s) w i u j → Put (line (text "order=") (orderWord o)) u j v k → k + length (settingLines t) ≤ length v
+  header-third u v j k r p q = third-room (sideLines s) (line (text "order=") (orderWord o)) (settingLines t) w i (header-room r) u j p v k q
 
-  pub header-put : (b c d : List ℕ) (j k m : ℕ) → Put (sideLines s) a i b j → Put (line (text "order=") (orderWord o)) b j c k → Put (settingLines t) c k d m → Put (headerWritten s o t) a i d m
-  header-put b c d j k m p q u = rw (header-parts s o t) (all-put _ _ _ a b c d i j k m p q u)
+  pub header-put : (u v d : List ℕ) (j k m : ℕ) → Put (sideLines s) w i u j → Put (line (text "order=") (orderWord o)) u j v k → Put (settingLines t) v k d m → Put (headerWritten s o t) w i d m
+  header-put u v d j k m p q g = rw (header-parts s o t) (all-put _ _ _ w u v d i j k m p q g)
 
 -- the order
 pub order-room-big : (o : Order) (i m : ℕ) → o ≡ Big → i + length (line (text "order=") (orderWord o)) ≤ m → i + 10 ≤ m
@@ -385,9 +371,7 @@ pub ruleset wholes = (needs, whole-first, whole-second, whole-third, whole-put)
 
 pub ruleset parts = (needs, line-first, line-second, line-third, line-put)
 
-pub ruleset sidely = (needs, sides-first, sides-second, sides-third, sides-put)
-
-pub ruleset settled = (needs, settings-first, settings-second, settings-third, settings-put)
+pub ruleset threes = (needs, three-first, three-second, three-third, three-put)
 
 pub ruleset headed = (needs, header-first, header-second, header-third, header-put)
 

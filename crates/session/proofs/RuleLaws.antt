@@ -6,7 +6,7 @@ use Prim.Native.Nat.{ℕ}
 use borrow.Author.Needs.{needs}
 use Rattle.method.specs.declared.Found.{Found}
 use Rattle.method.specs.declared.Found.the-variants.{Nowhere, At}
-use Rattle.method.specs.Answers.{Check, fault, Verdict, passed, refused, verdict}
+use Rattle.method.specs.Answers.{Check, fault, Verdict, refused, verdict}
 use Rattle.session.specs.Rulings.{rulingOf, rulingBy, firstOf}
 use Rattle.session.specs.declared.Ruling.{Ruling}
 use Rattle.session.specs.declared.Ruling.the-variants.{Refused, Allowed}

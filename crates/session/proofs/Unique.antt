@@ -3,7 +3,6 @@ use mathlib.Core.Path.{_≡_, sym, ap₂, _∙_}
 use mathlib.Core.List.{List}
 use Prim.Native.Nat.{ℕ}
 use lib.IntN.{ℤ}
-use Rattle.method.specs.declared.Answer.{Answer}
 use Rattle.method.specs.declared.Sides.{Sides}
 use Rattle.method.specs.declared.Order.{Order}
 use Rattle.method.specs.declared.Settings.{Settings}

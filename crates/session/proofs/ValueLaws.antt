@@ -1,15 +1,15 @@
 -- Laws of words, signed numbers and the bytes of a value. Assumes nothing.
 use mathlib.Core.Path.{_≡_, refl, sym, ap, ap₂, _∙_}
-use mathlib.Core.Bool.{Bool, true, false, not, cond, false≢true, true≢false}
-use mathlib.Core.List.{List, [], _∷_, _++_, reverse}
+use mathlib.Core.Bool.{Bool, true, false, cond, true≢false}
+use mathlib.Core.List.{List, [], _∷_}
 use Prim.Native.Nat.{ℕ, zero, suc, _+_, _-_, _*_, _^_, _≤_, _<_}
 use native.Mathlib.Omega.{arith}
 use borrow.Author.Needs.{needs}
-use borrow.Author.Tests.{lt-ltb, le-ltb, ltb-true, ltb-false}
+use borrow.Author.Tests.{lt-ltb, le-ltb, ltb-true}
 use lib.Dec.{T, ltb}
-use lib.ListN.{length, getD, take, drop, set, length-drop, length-append}
-use lib.Seq.{drop-cons, getD-drop, set-at}
-use lib.IntN.{ℤ, pos, negsuc, natAbs, negℤ, _+ℤ_, _-ℤ_}
+use lib.ListN.{length, getD, take, drop}
+use lib.Seq.{drop-cons}
+use lib.IntN.{ℤ, pos, negsuc, natAbs, _-ℤ_}
 use lib.Signed.{ltZ, nonNeg, mag}
 use mir.Syntax.{w32}
 use mir.Val.{Fits, SFits, toZ, ofZ}

@@ -2,14 +2,14 @@
 use mathlib.Core.Path.{_≡_, refl, sym, ap, ap₂, _∙_}
 use mathlib.Core.Bool.{Bool, true, false, not, _&&_}
 use mathlib.Core.List.{List, [], _∷_, _++_, flatMap}
-use Prim.Native.Nat.{ℕ, zero, suc, _+_, _-_, _*_, _^_, _≤_, _<_}
+use Prim.Native.Nat.{ℕ, _+_, _*_, _≤_, _<_}
 use native.Mathlib.Omega.{arith}
 use borrow.Author.Needs.{needs}
 use borrow.Author.Tests.{lt-leb, le-leb, eq-eqb, ne-eqb, not-true, not-false}
 use lib.Dec.{ltb, leb, eqb}
 use lib.IntN.{ℤ, pos, natAbs}
-use lib.ListN.{length, getD, take, drop, replicate, length-append, length-replicate}
-use lib.Seq.{sets, sets-eq}
+use lib.ListN.{length, getD, drop, replicate, length-append, length-replicate}
+use lib.Seq.{sets-eq}
 use Rattle.laws.specs.Text.{text}
 use Rattle.method.specs.declared.Answer.{Answer}
 use Rattle.method.specs.declared.Sides.{Sides}
@@ -17,50 +17,32 @@ use Rattle.method.specs.declared.Order.{Order}
 use Rattle.method.specs.declared.Order.the-variants.{Big, Little}
 use Rattle.method.specs.declared.Settings.{Settings}
 use Rattle.method.specs.declared.Found.{Found}
-use Rattle.method.specs.declared.Found.the-variants.{Nowhere, At}
 use Rattle.method.specs.Cast.{cells, sidesFit, settingsFit, labelAt, widest, first, badLabel, badValue}
 use Rattle.method.specs.Form.{decimal, line, orderWord, headerWritten, valueWritten, written}
-use Rattle.method.specs.Answers.{Check, check, fault, Verdict, passed, refused, verdict, refusal, done, filled}
-use Rattle.method.specs.Calls.{Writing, writerLengthsFit, writerChecks, writing}
-use Rattle.session.specs.Body.{CellsOf, badLabelAt, firstBadLabel, badWrittenAt, firstBadWritten}
-use Rattle.session.specs.Puts.{Put, DigitsOf, sideLines, settingLines}
+use Rattle.method.specs.Answers.{check, fault, passed, refused, verdict, refusal, done, filled}
+use Rattle.method.specs.Calls.{Writing, bytesOf, writerLengthsFit, writerChecks, writing}
+use Rattle.session.specs.Body.{CellsOf, badLabelAt, badWrittenAt}
+use Rattle.session.specs.Puts.{Put, threeLines}
 use Rattle.session.specs.Writes.{offered, WriteOf, ThreeDigits, OrderLength, HeaderLength, RoomIf, RuledOf}
-use Rattle.session.specs.declared.Written.{Written}
 use Rattle.session.specs.declared.Ruling.{Ruling}
 use Rattle.session.specs.declared.Ruling.the-variants.{Refused, Allowed}
-use Rattle.session.proofs.JudgeLaws.{first-cong, getD-any}
+use Rattle.laws.proofs.Lists.{getD-any}
+use Rattle.session.proofs.JudgeLaws.{first-cong}
 use Rattle.session.proofs.RuleLaws.{fails-at, passes-on, verdict-agree, ruling-more, ruling-last, fault-no, fault-yes}
 use Rattle.session.specs.Rulings.{rulingOf, rulingBy, firstOf}
-use Rattle.session.proofs.PutLaws.{header-parts, values-length}
+use Rattle.session.proofs.PutLaws.{sideLines, settingLines, header-parts, values-length}
 
 -- ---- lengths
 line-length : (key : List ℕ) (n : ℕ) → length (line key (decimal n)) ≡ length key + length (decimal n) + 1
 unfolding line
 line-length key n = length-append (key ++ decimal n) (text "\n") ∙ ap (λ k. k + 1) (length-append key (decimal n))
 
-sides-length : (s : Sides) → length (sideLines s) ≡ length (decimal (s .nx)) + length (decimal (s .ny)) + length (decimal (s .nz)) + 12
-unfolding sideLines
-sides-length s =
-    length-append (line (text "nx=") (decimal (s .nx)) ++ line (text "ny=") (decimal (s .ny))) (line (text "nz=") (decimal (s .nz)))
-    ∙ omega (
-      arith,
-      length-append (line (text "nx=") (decimal (s .nx))) (line (text "ny=") (decimal (s .ny))),
-      line-length (text "nx=") (s .nx),
-      line-length (text "ny=") (s .ny),
-      line-length (text "nz=") (s .nz),
-    )
-
-settings-length : (t : Settings) → length (settingLines t) ≡ length (decimal (t .tolerance)) + length (decimal (t .levels)) + length (decimal (t .rounds)) + 27
-unfolding settingLines
-settings-length t =
-    length-append (line (text "tolerance=") (decimal (t .tolerance)) ++ line (text "levels=") (decimal (t .levels))) (line (text "rounds=") (decimal (t .rounds)))
-    ∙ omega (
-      arith,
-      length-append (line (text "tolerance=") (decimal (t .tolerance))) (line (text "levels=") (decimal (t .levels))),
-      line-length (text "tolerance=") (t .tolerance),
-      line-length (text "levels=") (t .levels),
-      line-length (text "rounds=") (t .rounds),
-    )
+three-length : (a : List ℕ) (x : ℕ) (b : List ℕ) (y : ℕ) (c : List ℕ) (z : ℕ)
+    → length (threeLines a x b y c z) ≡ length a + length b + length c + 3 + (length (decimal x) + length (decimal y) + length (decimal z))
+unfolding threeLines
+three-length a x b y c z =
+    length-append (line a (decimal x) ++ line b (decimal y)) (line c (decimal z))
+    ∙ omega (arith, length-append (line a (decimal x)) (line b (decimal y)), line-length a x, line-length b y, line-length c z)
 
 pub order-big : (o : Order) → o ≡ Big → OrderLength o 10
 unfolding line orderWord
@@ -74,7 +56,7 @@ pub header-long : (s : Sides) (o : Order) (t : Settings) (a b c : ℕ) → Three
     → ThreeDigits (t .tolerance) (t .levels) (t .rounds) c → HeaderLength s o t (a + b + c + 39)
 header-long s o t a b c p q r = record {
   is = sym (ap length (header-parts s o t) ∙ length-append (sideLines s ++ line (text "order=") (orderWord o)) (settingLines t)
-      ∙ omega (arith, length-append (sideLines s) (line (text "order=") (orderWord o)), sides-length s, settings-length t, p .is, q .is, r .is));
+      ∙ omega (arith, length-append (sideLines s) (line (text "order=") (orderWord o)), three-length (text "nx=") (s .nx) (text "ny=") (s .ny) (text "nz=") (s .nz), three-length (text "tolerance=") (t .tolerance) (text "levels=") (t .levels) (text "rounds=") (t .rounds), p .is, q .is, r .is));
   few = omega (arith, p .few, q .few, r .few);
 }
 
@@ -144,12 +126,12 @@ module _ (s : Sides) (o : Order) (t : Settings) (ls : List ℕ) (vs : List ℤ) 
             pub cast-2-room : room < m + 5 * n → RuledOf s o t ls vs room (Refused 2 0)
             cast-2-room r = by-2 (sym fits-by ∙ lt-leb (length whole) room (omega (arith, need)))
 
-            label-fault : badLabel s ls ≡ firstBadLabel ls n
-            unfolding badLabel firstBadLabel badLabelAt labelAt
+            label-fault : badLabel s ls ≡ first (badLabelAt ls) n
+            unfolding badLabel badLabelAt labelAt
             label-fault = ap (first _) (sym (c .is)) ∙ first-cong _ _ n (λ i j. ap (ltb 2) (getD-any ls i 2 0 (omega arith)))
 
-            value-fault : badValue s ls vs ≡ firstBadWritten ls vs n
-            unfolding badValue firstBadWritten badWrittenAt labelAt
+            value-fault : badValue s ls vs ≡ first (badWrittenAt ls vs) n
+            unfolding badValue badWrittenAt labelAt
             value-fault = ap (first _) (sym (c .is)) ∙ first-cong _ _ n (λ i j. ap (λ x. ltb (widest x) (natAbs (getD vs i (pos 0)))) (getD-any ls i 2 0 (omega arith)))
 
             past-2 : m + 5 * n ≤ room → verdict writerChecks lent
@@ -161,9 +143,9 @@ module _ (s : Sides) (o : Order) (t : Settings) (ls : List ℕ) (vs : List ℤ) 
             room-if (Refused x y) r = tt
             room-if Allowed r = omega (arith, need)
 
-            pub cast-cells : (r : Ruling) → m + 5 * n ≤ room → r ≡ firstOf (rulingBy 4 (firstBadLabel ls n)) (rulingBy 5 (firstBadWritten ls vs n)) → RuledOf s o t ls vs room r
+            pub cast-cells : (r : Ruling) → m + 5 * n ≤ room → r ≡ firstOf (rulingBy 4 (first (badLabelAt ls) n)) (rulingBy 5 (first (badWrittenAt ls vs) n)) → RuledOf s o t ls vs room r
             cast-cells r u e = record {
-              is = past-2 u ∙ ruling-more _ _ lent (firstBadLabel ls n) _ label-fault (ruling-last _ lent (firstBadWritten ls vs n) value-fault) ∙ ap rulingOf (sym e);
+              is = past-2 u ∙ ruling-more _ _ lent (first (badLabelAt ls) n) _ label-fault (ruling-last _ lent (first (badWrittenAt ls vs) n) value-fault) ∙ ap rulingOf (sym e);
               roomy = room-if r u;
             }
 
@@ -178,7 +160,7 @@ unfolding writing
 writing-refused w num place e = rw (writing, e)
 
 writing-passed : (w : Writing) → verdict writerChecks w ≡ passed
-    → writing w ≡ record { answer = done; count = length (written (w .cast) (w .order) (w .settings)); output = filled (length (written (w .cast) (w .order) (w .settings))) (written (w .cast) (w .order) (w .settings)) (w .output) }
+    → writing w ≡ record { answer = done; count = length (bytesOf w); output = filled (length (bytesOf w)) (bytesOf w) (w .output) }
 unfolding writing
 writing-passed w e = rw (writing, e)
 

@@ -8,8 +8,7 @@ use lib.ListN.{getD, take, drop}
 use lib.IntN.{ℤ, pos, natAbs}
 use Rattle.method.specs.declared.Sides.{Sides}
 use Rattle.method.specs.declared.Order.{Order}
-use Rattle.method.specs.declared.Found.{Found}
-use Rattle.method.specs.Cast.{cells, widest, first}
+use Rattle.method.specs.Cast.{cells, widest}
 use Rattle.method.specs.Form.{valueRead}
 
 pub record CellsOf (s : Sides) (n : ℕ) : Type 0 where
@@ -19,9 +18,6 @@ pub record CellsOf (s : Sides) (n : ℕ) : Type 0 where
 unfoldable pub badLabelAt : List ℕ → ℕ → Bool
 badLabelAt labels c = ltb 2 (getD labels c 0)
 
-unfoldable pub firstBadLabel : List ℕ → ℕ → Found
-firstBadLabel labels n = first (badLabelAt labels) n
-
 -- the value of cell c of a body of n cells
 unfoldable pub valueIn : List ℕ → ℕ → Order → ℕ → ℤ
 valueIn body n o c = valueRead o (take 4 (drop (n + 4 * c) body))
@@ -29,12 +25,6 @@ valueIn body n o c = valueRead o (take 4 (drop (n + 4 * c) body))
 unfoldable pub badValueAt : List ℕ → ℕ → Order → ℕ → Bool
 badValueAt body n o c = ltb (widest (getD body c 0)) (natAbs (valueIn body n o c))
 
-unfoldable pub firstBadValue : List ℕ → ℕ → Order → Found
-firstBadValue body n o = first (badValueAt body n o) n
-
 -- labels and values that are to be written
 unfoldable pub badWrittenAt : List ℕ → List ℤ → ℕ → Bool
 badWrittenAt labels values c = ltb (widest (getD labels c 0)) (natAbs (getD values c (pos 0)))
-
-unfoldable pub firstBadWritten : List ℕ → List ℤ → ℕ → Found
-firstBadWritten labels values n = first (badWrittenAt labels values) n

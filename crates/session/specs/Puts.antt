@@ -4,9 +4,6 @@ use mathlib.Core.List.{List, _++_}
 use Prim.Native.Nat.{ℕ, _+_, _≤_}
 use lib.ListN.{length}
 use lib.Seq.{sets}
-use Rattle.laws.specs.Text.{text}
-use Rattle.method.specs.declared.Sides.{Sides}
-use Rattle.method.specs.declared.Settings.{Settings}
 use Rattle.method.specs.Form.{decimal, line}
 
 pub record Put (bytes old : List ℕ) (at : ℕ) (new : List ℕ) (r : ℕ) : Type 0 where
@@ -17,8 +14,6 @@ pub record DigitsOf (n r : ℕ) : Type 0 where
   pub is : r ≡ length (decimal n)
   pub few : r ≤ 4294967296
 
-unfoldable pub sideLines : Sides → List ℕ
-sideLines s = line (text "nx=") (decimal (s .nx)) ++ line (text "ny=") (decimal (s .ny)) ++ line (text "nz=") (decimal (s .nz))
-
-unfoldable pub settingLines : Settings → List ℕ
-settingLines t = line (text "tolerance=") (decimal (t .tolerance)) ++ line (text "levels=") (decimal (t .levels)) ++ line (text "rounds=") (decimal (t .rounds))
+-- three lines of numbers
+unfoldable pub threeLines : List ℕ → ℕ → List ℕ → ℕ → List ℕ → ℕ → List ℕ
+threeLines a x b y c z = line a (decimal x) ++ line b (decimal y) ++ line c (decimal z)

@@ -5,7 +5,6 @@ use mathlib.Core.List.{List}
 use Prim.Native.Nat.{ℕ, _*_, _≤_}
 use lib.ListN.{length, drop, replicate}
 use lib.IntN.{ℤ, pos}
-use Rattle.method.specs.declared.Answer.{Answer}
 use Rattle.method.specs.Cast.{cells, sidesFit}
 use Rattle.method.specs.Form.{header}
 use Rattle.method.specs.Answers.{Verdict, passed, refused, verdict}

@@ -60,6 +60,7 @@ fn judge_sizes(bytes: &[u8], room: usize, h: Header) -> Judged
     }
 }
 
+// Check 10, and then all others.
 pub(crate) fn judge_session(bytes: &[u8], room: usize) -> Judged
     ensures { λ r. ⌜ JudgedOf (now (bytes .entry)) room r ⌝ }
 {

@@ -32,6 +32,7 @@ pub(crate) fn rest(bytes: &[u8], at: usize) -> &[u8]
     &bytes[at..]
 }
 
+// Whether a byte is a decimal digit.
 fn is_digit(b: u8) -> bool
     ensures { λ r. ⌜ r ≡ isDigit b ⌝ }
 {

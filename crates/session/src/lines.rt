@@ -34,6 +34,7 @@ fn three_lines(bytes: &[u8], first: u32, a: &[u8], b: &[u8], c: &[u8]) -> ThreeR
     ThreeRead::Values(x, y, z, i + j + k)
 }
 
+// The order that the value of its line stands for.
 fn order_of(v: u32) -> Order
     ensures { λ r. ⌜ r ≡ orderOf v ⌝ }
 {
@@ -69,6 +70,7 @@ fn after_sides(bytes: &[u8], i: usize, sides: Sides) -> HeaderRead
     }
 }
 
+// The seven lines, from the front of the bytes.
 pub(crate) fn header(bytes: &[u8]) -> HeaderRead
     ensures { λ r. ⌜ HeaderOf (now (bytes .entry)) r ⌝ }
 {

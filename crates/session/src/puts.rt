@@ -1,11 +1,11 @@
 // The bytes of a session, put one part after the other.
 ghost use mathlib.Core.Path.{_≡_};
-ghost use mathlib.Core.List.{[], _∷_, _++_, flatMap};
+ghost use mathlib.Core.List.{[], _∷_, flatMap};
 ghost use Prim.Native.Nat.{_+_, _*_, _/_, _%_, _<_, _≤_};
 ghost use lib.ListN.{length};
 ghost use Rattle.method.specs.Form.{decimal, line, orderWord, headerWritten, valueWritten, written};
 ghost use Rattle.laws.specs.Text.{text};
-ghost use Rattle.session.specs.Puts.{Put, sideLines, settingLines};
+ghost use Rattle.session.specs.Puts.{Put, threeLines};
 use crate::decimal::put_decimal;
 use crate::value::word_of;
 use method::Order;
@@ -25,6 +25,7 @@ fn put_bytes(output: &mut [u8], at: usize, bytes: &[u8]) -> usize
     at + bytes.len()
 }
 
+// Puts a line of a key and a number.
 fn put_line(output: &mut [u8], at: usize, key: &[u8], n: u32) -> usize
     requires { ⌜ at + length (line (now key) (decimal n)) ≤ length (now output) ⌝ }
     ensures { λ r. ⌜ Put (line (now (key .entry)) (decimal n)) (now (output .entry)) at (now (output .exit)) r ⌝ }
@@ -34,6 +35,7 @@ fn put_line(output: &mut [u8], at: usize, key: &[u8], n: u32) -> usize
     put_bytes(output, end, b"\n")
 }
 
+// Puts the line of the order.
 fn put_order(output: &mut [u8], at: usize, order: Order) -> usize
     requires { ⌜ at + length (line (text "order=") (orderWord order)) ≤ length (now output) ⌝ }
     ensures { λ r. ⌜ Put (line (text "order=") (orderWord order)) (now (output .entry)) at (now (output .exit)) r ⌝ }
@@ -44,33 +46,57 @@ fn put_order(output: &mut [u8], at: usize, order: Order) -> usize
     }
 }
 
-fn put_sides(output: &mut [u8], at: usize, sides: Sides) -> usize
-    requires { ⌜ at + length (sideLines sides) ≤ length (now output) ⌝ }
-    ensures { λ r. ⌜ Put (sideLines sides) (now (output .entry)) at (now (output .exit)) r ⌝ }
+// Puts three lines of numbers.
+fn put_three(
+    output: &mut [u8],
+    at: usize,
+    a: &[u8],
+    x: u32,
+    b: &[u8],
+    y: u32,
+    c: &[u8],
+    z: u32,
+) -> usize
+    requires { ⌜ at + length (threeLines (now a) x (now b) y (now c) z) ≤ length (now output) ⌝ }
+    ensures { λ r. ⌜ Put (threeLines (now (a .entry)) x (now (b .entry)) y (now (c .entry)) z) (now (output .entry)) at (now (output .exit)) r ⌝ }
 {
-    let second = put_line(output, at, b"nx=", sides.nx);
-    let third = put_line(output, second, b"ny=", sides.ny);
-    put_line(output, third, b"nz=", sides.nz)
+    let second = put_line(output, at, a, x);
+    let third = put_line(output, second, b, y);
+    put_line(output, third, c, z)
 }
 
-fn put_settings(output: &mut [u8], at: usize, settings: Settings) -> usize
-    requires { ⌜ at + length (settingLines settings) ≤ length (now output) ⌝ }
-    ensures { λ r. ⌜ Put (settingLines settings) (now (output .entry)) at (now (output .exit)) r ⌝ }
-{
-    let second = put_line(output, at, b"tolerance=", settings.tolerance);
-    let third = put_line(output, second, b"levels=", settings.levels);
-    put_line(output, third, b"rounds=", settings.rounds)
-}
-
+// Puts the seven lines.
 fn put_header(output: &mut [u8], at: usize, sides: Sides, order: Order, settings: Settings) -> usize
     requires { ⌜ at + length (headerWritten sides order settings) ≤ length (now output) ⌝ }
     ensures { λ r. ⌜ Put (headerWritten sides order settings) (now (output .entry)) at (now (output .exit)) r ⌝ }
 {
-    let fourth = put_sides(output, at, sides);
+    let fourth = put_three(
+        output,
+        at,
+        b"nx=",
+        sides.nx,
+        b"ny=",
+        sides.ny,
+        b"nz=",
+        sides.nz,
+    );
     let fifth = put_order(output, fourth, order);
-    put_settings(output, fifth, settings)
+    let tolerance = settings.tolerance;
+    let levels = settings.levels;
+    let rounds = settings.rounds;
+    put_three(
+        output,
+        fifth,
+        b"tolerance=",
+        tolerance,
+        b"levels=",
+        levels,
+        b"rounds=",
+        rounds,
+    )
 }
 
+// Puts four bytes.
 fn put_four(output: &mut [u8], at: usize, a: u8, b: u8, c: u8, d: u8) -> usize
     requires { ⌜ at + 4 ≤ length (now output) ⌝ }
     ensures { λ r. ⌜ Put (a ∷ b ∷ c ∷ d ∷ []) (now (output .entry)) at (now (output .exit)) r ⌝ }
@@ -90,6 +116,7 @@ fn byte_of(w: u32, unit: u32) -> u8
     (w / unit % 256) as u8
 }
 
+// Puts a value's four bytes, in the order that the session names.
 fn put_value(output: &mut [u8], at: usize, order: Order, v: i32) -> usize
     requires { ⌜ at + 4 ≤ length (now output) ⌝ }
     ensures { λ r. ⌜ Put (valueWritten order v) (now (output .entry)) at (now (output .exit)) r ⌝ }
@@ -105,6 +132,7 @@ fn put_value(output: &mut [u8], at: usize, order: Order, v: i32) -> usize
     }
 }
 
+// Puts all values, one after the other.
 fn put_values(output: &mut [u8], at: usize, order: Order, values: &[i32]) -> usize
     requires { ⌜ at + 4 * length (now values) ≤ length (now output) ⌝ }
     ensures { λ r. ⌜ Put (flatMap (valueWritten order) (now (values .entry))) (now (output .entry)) at (now (output .exit)) r ⌝ }

@@ -7,12 +7,13 @@ ghost use lib.IntN.{natAbs};
 ghost use Rattle.laws.specs.Lists.{tab};
 ghost use Rattle.method.specs.Answers.{filled};
 ghost use lib.ListN.{length, take, drop};
-ghost use Rattle.method.specs.Cast.{widest};
+ghost use Rattle.method.specs.Cast.{widest, first};
 ghost use Rattle.method.specs.Form.{inOrder, mostFirst, twosComplement, wordOf};
-ghost use Rattle.session.specs.Body.{badValueAt, badWrittenAt, firstBadValue, firstBadWritten, valueIn};
+ghost use Rattle.session.specs.Body.{badValueAt, badWrittenAt, valueIn};
 use method::Found;
 use method::Order;
 
+// A byte as a word.
 fn wide(b: u8) -> u32
     ensures { λ r. ⌜ r ≡ b ⌝ }
 {
@@ -107,7 +108,7 @@ fn bad_value_at(body: &[u8], n: usize, order: Order, c: usize) -> bool
 // The first cell of a body of n cells whose value is out of its label's range.
 pub(crate) fn bad_value(body: &[u8], n: usize, order: Order) -> Found
     requires { ⌜ (n ≤ 32768) × (length (now body) ≡ 5 * n) ⌝ }
-    ensures { λ r. ⌜ r ≡ firstBadValue (now (body .entry)) n order ⌝ }
+    ensures { λ r. ⌜ r ≡ first (badValueAt (now (body .entry)) n order) n ⌝ }
 {
     let mut c = 0;
     while c < n {
@@ -133,7 +134,7 @@ fn bad_written_at(labels: &[u8], values: &[i32], c: usize) -> bool
 // The first of n cells whose value is out of its label's range.
 pub(crate) fn bad_written(labels: &[u8], values: &[i32], n: usize) -> Found
     requires { ⌜ (n ≤ 32768) × ((length (now labels) ≡ n) × (length (now values) ≡ n)) ⌝ }
-    ensures { λ r. ⌜ r ≡ firstBadWritten (now (labels .entry)) (now (values .entry)) n ⌝ }
+    ensures { λ r. ⌜ r ≡ first (badWrittenAt (now (labels .entry)) (now (values .entry))) n ⌝ }
 {
     let mut c = 0;
     while c < n {

@@ -2,7 +2,8 @@
 ghost use mathlib.Core.Path.{_≡_};
 ghost use Prim.Native.Nat.{_≤_};
 ghost use lib.ListN.{length};
-ghost use Rattle.session.specs.Body.{firstBadLabel, firstBadWritten};
+ghost use Rattle.session.specs.Body.{badLabelAt, badWrittenAt};
+ghost use Rattle.method.specs.Cast.{first};
 ghost use Rattle.session.specs.Writes.{ThreeDigits, OrderLength, HeaderLength, RuledOf};
 ghost use Rattle.session.specs.Rulings.{rulingBy, firstOf};
 use crate::Ruling;
@@ -48,7 +49,7 @@ fn header_length(sides: Sides, order: Order, settings: Settings) -> usize
 // Checks 4 and 5.
 fn judge_cells(labels: &[u8], values: &[i32], n: usize) -> Ruling
     requires { ⌜ (n ≤ 32768) × ((length (now labels) ≡ n) × (length (now values) ≡ n)) ⌝ }
-    ensures { λ r. ⌜ r ≡ firstOf (rulingBy 4 (firstBadLabel (now (labels .entry)) n)) (rulingBy 5 (firstBadWritten (now (labels .entry)) (now (values .entry)) n)) ⌝ }
+    ensures { λ r. ⌜ r ≡ firstOf (rulingBy 4 (first (badLabelAt (now (labels .entry))) n)) (rulingBy 5 (first (badWrittenAt (now (labels .entry)) (now (values .entry))) n)) ⌝ }
 {
     let fourth = ruled(4, bad_label(labels, n));
     let fifth = ruled(5, bad_written(labels, values, n));

@@ -14,11 +14,11 @@ abbrev μ-loop : tie.MeasureT-loop
 loop-holds : tie.Need-loop-holds Inv-loop μ-loop
 loop-holds c = search searched
 
-shared-slice-read-if1 : tie.Need-shared-slice-read-if1 Inv-loop μ-loop
-shared-slice-read-if1 c = search searched
+bad-label-at-requires : tie.Need-bad-label-at-requires Inv-loop μ-loop
+bad-label-at-requires c κs = search searched
 
-cast-t7 : tie.Need-cast-t7 Inv-loop μ-loop
-cast-t7 c = search searched
+cast-t6 : tie.Need-cast-t6 Inv-loop μ-loop
+cast-t6 c = search searched
 
 returns : tie.Need-returns Inv-loop μ-loop
 returns c = search searched
@@ -42,8 +42,8 @@ bad-label-spec =
     Inv-loop
     μ-loop
     loop-holds
-    shared-slice-read-if1
-    cast-t7
+    bad-label-at-requires
+    cast-t6
     returns
     add-c
     loop-less

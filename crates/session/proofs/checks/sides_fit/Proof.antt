@@ -1,4 +1,4 @@
--- `session::checks::sides_fit` meets its contract, test by test. Assumes nothing.
+-- `session::checks::sides_fit` meets its contract: three ranges. Assumes nothing.
 use Rattle.session.proofs.CheckLaws.{checked}
 use Rattle.session.proofs.checks.sides_fit.Statement.{statement}
 use Rattle.session.proofs.checks.sides_fit.Tie as tie
@@ -6,22 +6,19 @@ use Rattle.session.proofs.checks.sides_fit.Tie as tie
 between-requires : tie.Need-between-requires
 between-requires c κs = search checked
 
-returns : tie.Need-returns
-returns c = search checked
-
 between-requires-2 : tie.Need-between-requires-2
 between-requires-2 c κs = search checked
-
-returns-2 : tie.Need-returns-2
-returns-2 c = search checked
 
 between-requires-3 : tie.Need-between-requires-3
 between-requires-3 c κs = search checked
 
-returns-3 : tie.Need-returns-3
-returns-3 c = search checked
+all-three-requires : tie.Need-all-three-requires
+all-three-requires c κs = search checked
+
+returns : tie.Need-returns
+returns c = search checked
 
 pub sides-fit-spec : {M : Type 1} → statement M
 sides-fit-spec =
     tie.close
-    (tie.spec between-requires returns between-requires-2 returns-2 between-requires-3 returns-3)
+    (tie.spec between-requires between-requires-2 between-requires-3 all-three-requires returns)

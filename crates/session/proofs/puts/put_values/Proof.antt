@@ -1,4 +1,4 @@
--- `session::puts::put_values` meets its contract: i values are put. Assumes nothing. .
+-- `session::puts::put_values` meets its contract: i values are put. Assumes nothing.
 use Prim.Native.Nat.{_≤_, _-_}
 use lib.ListN.{length}
 use Rattle.session.proofs.PutLaws.{valuing, Valued}

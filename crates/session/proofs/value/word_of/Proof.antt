@@ -1,5 +1,5 @@
 -- `session::value::word_of` meets its contract, by the sign. Assumes nothing.
-use Rattle.session.proofs.ValueLaws.{words, turned-fits, turned-cast, turned-small, plain-cast, word-below, word-above}
+use Rattle.session.proofs.ValueLaws.{turned-fits, turned-cast, turned-small, plain-cast, word-below, word-above}
 use Rattle.session.proofs.value.word_of.Statement.{statement}
 use Rattle.session.proofs.value.word_of.Tie as tie
 
