@@ -151,15 +151,6 @@ unfolding _*ᶻ_
 mul-pos-parts m (pos n) = (refl, omega arith)
 mul-pos-parts m (negsuc n) = (neg-P (pos (m * suc n)) ∙ omega arith, neg-M (pos (m * suc n)))
 
-pub sq-nonneg : (x : ℤ) → pos 0 ≤ℤ x *ᶻ x
-sq-nonneg (pos k) = z-le (search lin) (omega arith)
-sq-nonneg (negsuc k) = let X = at (negsuc k) in z-le (search lin) (omega arith)
-
-pub sq-zero : (x : ℤ) → x *ᶻ x ≤ℤ pos 0 → x ≡ pos 0
-sq-zero (pos zero) h = refl
-sq-zero (pos (suc k)) h = absurd (omega (arith, le-z (search lin) h))
-sq-zero (negsuc k) h = let X = at (negsuc k) in absurd (omega (arith, le-z (search lin) h))
-
 -- ---- sizes
 pub abs-parts : (z : ℤ) → natAbs z ≡ P z + M z
 abs-parts (pos n) = omega arith

@@ -1,12 +1,11 @@
 -- What it says that the sides fit, and the three axes by name. Assumes nothing.
-use mathlib.Core.Path.{_≡_, refl, sym, ap₂, subst}
+use mathlib.Core.Path.{_≡_, sym, ap₂, subst}
 use mathlib.Core.Bool.{true, _&&_}
-use mathlib.Core.List.{[], _∷_}
 use Prim.Native.Nat.{ℕ, _*_, _≤_}
 use lib.Dec.{T, leb, leb→le}
 use borrow.Author.Tests.{le-leb}
 use Rattle.method.specs.declared.Sides.{Sides}
-use Rattle.method.specs.Cast.{Axis, axes, between, sidesFit}
+use Rattle.method.specs.Cast.{Axis, between, sidesFit}
 use Rattle.laws.proofs.Bools.{and-l, and-r}
 
 -- each side is 1 to 32
@@ -62,7 +61,3 @@ y-axis s = record { stride = s .nx; side = s .ny }
 
 abbrev pub z-axis : Sides → Axis
 z-axis s = record { stride = s .nx * s .ny; side = s .nz }
-
-pub axes-are : (s : Sides) → axes s ≡ x-axis s ∷ y-axis s ∷ z-axis s ∷ []
-unfolding axes
-axes-are s = refl
