@@ -377,7 +377,7 @@ def laid_out(folder, vectors, edit):
 
 
 # how the checker says that the two sides of an equation have different values
-DIFFERS = r"as printed, the two types differ|expected type `|the two types differ"
+DIFFERS = r"(as printed, |computed as far as they go, )?the two types (first )?differ|expected type `"
 
 
 def judged(folder, vectors):
