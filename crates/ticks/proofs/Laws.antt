@@ -111,15 +111,19 @@ pub gathering-none : {ls : List ℕ} {ps : List ℤ} {near : List ℕ} → Gathe
 unfolding up
 gathering-none = record { few = omega arith; small = omega arith; count = refl; total = refl }
 
-pub gathering-more : {ls : List ℕ} {ps : List ℤ} {near : List ℕ} {i : ℕ} {a r : Faces}
-    → Held ls ps → Gathering ls ps near i a → Visited ls ps (getD near i 0) a r → Gathering ls ps near (i + 1) r
+pub gathering-next : {ls : List ℕ} {ps : List ℤ} {near : List ℕ} {i : ℕ} {a r : Faces}
+    → natAbs (r .sum) ≤ natAbs (a .sum) + 2 ^ 41 → Gathering ls ps near i a → Visited ls ps (getD near i 0) a r → Gathering ls ps near (i + 1) r
 unfolding up
-gathering-more {ls} {ps} {near} {i} {a} {r} h g v = record {
+gathering-next {ls} {ps} {near} {i} {a} {r} h g v = record {
   few = omega (arith, visited-few v, g .few);
-  small = omega (arith, visited-small h v, g .small);
+  small = omega (arith, g .small);
   count = rw add-one (v .count ∙ ap (countTurn ls near i) (g .count));
   total = rw add-one (v .total ∙ ap (sumTurn ls ps near i) (g .total));
 }
+
+pub gathering-more : {ls : List ℕ} {ps : List ℤ} {near : List ℕ} {i : ℕ} {a r : Faces}
+    → Held ls ps → Gathering ls ps near i a → Visited ls ps (getD near i 0) a r → Gathering ls ps near (i + 1) r
+gathering-more h g v = gathering-next (visited-small h v) g v
 
 pub gathering-end : {g : Sides} {ls : List ℕ} {ps : List ℤ} {near : List ℕ} {c i : ℕ} {a : Faces}
     → near ≡ around g c → Gathering ls ps near i a → i ≤ 6 → 6 ≤ i → Gathered g ls ps c a
@@ -142,11 +146,11 @@ pub gives-residual : (source sum own r : ℤ) (d : ℕ) → SFits w64 source →
 gives-residual source sum own r d f g h e = e ∙ rw (toZ-ofZ f, toZ-ofZ g, toZ-ofZ h)
 
 pub residual-made : (g : Sides) (ls : List ℕ) (vs ps : List ℤ) (c : ℕ) (a : Faces) (source r : ℤ) → source ≡ field vs c → natAbs source ≤ 2 ^ 31
-    → Held ls ps → Gathered g ls ps c a → r ≡ source +ᶻ a .sum -ᶻ pos (a .d) *ᶻ field ps c → Residual g ls vs ps c r
+    → natAbs (field ps c) ≤ 2 ^ 41 → Gathered g ls ps c a → r ≡ source +ᶻ a .sum -ᶻ pos (a .d) *ᶻ field ps c → Residual g ls vs ps c r
 unfolding residual
 residual-made g ls vs ps c a source r e k h m q = record {
   is = q ∙ ap₂ _-ᶻ_ (ap₂ _+ᶻ_ e (m .total)) (ap (λ n. pos n *ᶻ field ps c) (m .count));
-  small = residual-small source (a .sum) (field ps c) (a .d) (k, (omega (arith, m .small), (m .few, h .small c))) q;
+  small = residual-small source (a .sum) (field ps c) (a .d) (k, (omega (arith, m .small), (m .few, h))) q;
 }
 
 -- ---- the worst, by the cell's label l

@@ -63,7 +63,7 @@ returns c =
     let f : SFits w64 (c .residual-of .result) = record { sfits = c .residual-of .ok } in
     rw (toZ-ofZ f)
     (residual-made (s .args .g) (now (s .args .labels)) (now (s .args .values)) (now (s .args .p)) (s .args .c) (m .result) (w .wide .result)
-    (c .residual-of .result) (source w .0) (source w .1) (s .pre .0 .held) (m .ensures) e)
+    (c .residual-of .result) (source w .0) (source w .1) h (m .ensures) e)
 
 pub residual-at-spec : {M : Type 1} → statement M
 residual-at-spec =

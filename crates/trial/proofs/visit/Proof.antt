@@ -1,0 +1,36 @@
+-- `trial::visit` meets its contract: by the label. Assumes nothing.
+use Prim.Native.Nat.{_+_, _^_, _<_}
+use native.Mathlib.Omega.{arith}
+use borrow.Author.Needs.{needs}
+use denote.Ref.{now}
+use lib.IntN.{natAbs}
+use lib.ListN.{length}
+use Rattle.trial.proofs.Laws.{trials}
+use Rattle.trial.proofs.visit.Statement.{statement}
+use Rattle.trial.proofs.visit.Tie as tie
+
+label-at-requires : tie.Need-label-at-requires
+label-at-requires c κs = search needs
+
+add-t10 : tie.Need-add-t10
+add-t10 c = search needs
+
+whole-at-requires : tie.Need-whole-at-requires
+whole-at-requires c κs = let s = c .before .before .before .before .before in let h : s .args .j < length (now (s .args .labels)) = search trials in search needs
+
+plus-requires : tie.Need-plus-requires
+plus-requires c κs =
+    let s = c .before .before .before .before .before .before .before in
+    let h : natAbs (s .args .a .sum) + natAbs (c .before .whole-at .result) < 2 ^ 63 = omega (arith, c .before .whole-at .ensures .small) in
+    search trials
+
+returns : tie.Need-returns
+returns c = search trials
+
+returns-2 : tie.Need-returns-2
+returns-2 c = search trials
+
+pub visit-spec : {M : Type 1} → statement M
+visit-spec =
+    tie.close
+    (tie.spec label-at-requires add-t10 whole-at-requires plus-requires returns returns-2)
