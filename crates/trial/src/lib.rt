@@ -112,13 +112,12 @@ fn refused_at(labels: &[u8], x: &[f64], c: usize) -> bool
     requires { ⌜ c < length (now x) ⌝ }
     ensures { λ r. ⌜ r ≡ refusedAt (now (labels .entry)) (now (x .entry)) c ⌝ }
 {
-    if label_at(labels, c) == 0 {
-        match ticks::tick::to_tick(x[c]) {
-            Tick::Whole(_) => false,
-            Tick::Refused => true,
-        }
-    } else {
-        false
+    if label_at(labels, c) != 0 {
+        return false;
+    }
+    match ticks::tick::to_tick(x[c]) {
+        Tick::Whole(_) => false,
+        Tick::Refused => true,
     }
 }
 

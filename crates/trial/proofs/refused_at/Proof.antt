@@ -7,6 +7,9 @@ use Rattle.trial.proofs.refused_at.Tie as tie
 label-at-requires : tie.Need-label-at-requires
 label-at-requires c κs = search needs
 
+returns : tie.Need-returns
+returns c = search trials
+
 mul-to-tick : tie.Need-mul-to-tick
 mul-to-tick c = search needs
 
@@ -22,9 +25,6 @@ enum-told c = search needs
 enum-told-2 : tie.Need-enum-told-2
 enum-told-2 c = search needs
 
-returns : tie.Need-returns
-returns c = search trials
-
 returns-2 : tie.Need-returns-2
 returns-2 c = search trials
 
@@ -36,11 +36,11 @@ refused-at-spec =
     tie.close
     (tie.spec
     label-at-requires
+    returns
     mul-to-tick
     shared-slice-read-to-tick
     to-tick-requires
     enum-told
     enum-told-2
-    returns
     returns-2
     returns-3)
