@@ -1,4 +1,6 @@
 -- `trial::test` meets its contract: by the two tests. Assumes nothing.
+use Prim.Native.Nat.{_≤_, _<_}
+use native.Mathlib.Omega.{arith}
 use borrow.Author.Needs.{needs}
 use Rattle.trial.proofs.Laws.{trials}
 use Rattle.trial.proofs.test.Statement.{statement}
@@ -20,10 +22,16 @@ cast-t11 : tie.Need-cast-t11
 cast-t11 c = search needs
 
 returns-2 : tie.Need-returns-2
-returns-2 c = search trials
+returns-2 c =
+    let s = c .before .before .before .before .before .before .before in
+    let k : c .before .before .worst-of .result ≤ s .args .settings .tolerance = omega arith in
+    search trials
 
 returns-3 : tie.Need-returns-3
-returns-3 c = search trials
+returns-3 c =
+    let s = c .before .before .before .before .before .before .before in
+    let k : s .args .settings .tolerance < c .before .before .worst-of .result = omega arith in
+    search trials
 
 pub test-spec : {M : Type 1} → statement M
 test-spec =

@@ -1,5 +1,5 @@
 -- `trial::visit` meets its contract: by the label. Assumes nothing.
-use Prim.Native.Nat.{_+_, _^_, _<_}
+use Prim.Native.Nat.{_+_, _^_, _≤_, _<_}
 use native.Mathlib.Omega.{arith}
 use borrow.Author.Needs.{needs}
 use denote.Ref.{now}
@@ -16,7 +16,11 @@ add-t10 : tie.Need-add-t10
 add-t10 c = search needs
 
 whole-at-requires : tie.Need-whole-at-requires
-whole-at-requires c κs = let s = c .before .before .before .before .before in let h : s .args .j < length (now (s .args .labels)) = search trials in search needs
+whole-at-requires c κs =
+    let s = c .before .before .before .before .before in
+    let k : c .before .before .label-at .result < 2 = omega arith in
+    let h : s .args .j < length (now (s .args .labels)) = search trials in
+    search needs
 
 plus-requires : tie.Need-plus-requires
 plus-requires c κs =
@@ -25,10 +29,10 @@ plus-requires c κs =
     search trials
 
 returns : tie.Need-returns
-returns c = search trials
+returns c = let k : c .before .before .before .before .before .label-at .result < 2 = omega arith in search trials
 
 returns-2 : tie.Need-returns-2
-returns-2 c = search trials
+returns-2 c = let k : 2 ≤ c .before .label-at .result = omega arith in search trials
 
 pub visit-spec : {M : Type 1} → statement M
 visit-spec =
