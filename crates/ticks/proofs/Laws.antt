@@ -9,7 +9,7 @@ use native.Mathlib.Numerals.{add-one}
 use borrow.Author.Tests.{lt-ltb, le-ltb, eq-eqb, ne-eqb}
 use lib.IntN.{ℤ, pos, natAbs}
 use lib.ListN.{length, getD, List·getD-eq-default}
-use mir.Syntax.{w64}
+use mir.Syntax.{w32, w64}
 use mir.Val.{SFits, toZ, ofZ}
 use mir.Facts.{toZ-ofZ}
 use Rattle.laws.specs.Loops.{up}
@@ -20,7 +20,7 @@ use Rattle.laws.proofs.Lists.{over-up}
 use Rattle.laws.proofs.Zed.{abs-add, abs-sub}
 use Rattle.method.specs.declared.Sides.{Sides}
 use Rattle.method.specs.Cast.{labelAt, noWall, field, around, degree, sumAround, residual, cells, isAir, judged, worst}
-use Rattle.whole.proofs.Laws.{wholes, abs-product}
+use Rattle.whole.proofs.Laws.{wholes, abs-product, abs-32}
 use Rattle.ticks.specs.declared.Faces.{Faces}
 use Rattle.ticks.specs.Ready.{Held}
 use Rattle.ticks.specs.Faces.{countStep, sumStep, Visited, Gathered, Residual}
@@ -140,6 +140,10 @@ gathering-end {g} {ls} {ps} {near} {c} {i} {a} e h p q =
     }
 
 -- ---- the residual
+-- the source, as `wide` hands it back
+pub source-is : (v r : ℤ) → SFits w32 v → r ≡ toZ w32 (ofZ w32 v) → (r ≡ v) × (natAbs r ≤ 2 ^ 31)
+source-is v r f e = let q : r ≡ v = e ∙ toZ-ofZ f in (q, omega (arith, ap natAbs q, abs-32 v f))
+
 -- a caller of `residual_of` meets its arguments behind their bits
 pub gives-residual : (source sum own r : ℤ) (d : ℕ) → SFits w64 source → SFits w64 sum → SFits w64 own
     → r ≡ toZ w64 (ofZ w64 source) +ᶻ toZ w64 (ofZ w64 sum) -ᶻ pos d *ᶻ toZ w64 (ofZ w64 own) → r ≡ source +ᶻ sum -ᶻ pos d *ᶻ own

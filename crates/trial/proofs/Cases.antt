@@ -2,14 +2,14 @@
 use mathlib.Core.Path.{_≡_, refl, _∙_}
 use mathlib.Core.List.{List, [], _∷_}
 use Prim.Native.Nat.{ℕ}
-use native.Mathlib.Omega.{arith}
 use lib.IntN.{ℤ, pos}
 use lib.Ieee.{Float, nan}
 use Rattle.laws.specs.Binary64.{+0}
 use Rattle.method.specs.declared.Settings.{Settings}
-use Rattle.method.specs.Cast.{cells}
+use Rattle.method.specs.Cast.{cells, between, sidesFit}
 use Rattle.method.specs.Rounds.{rounded}
 use Rattle.method.specs.Computing.{computing}
+use Rattle.theory.proofs.Sides.{fit}
 use Rattle.method.proofs.Cases.{row, cast, ½}
 use Rattle.trial.specs.declared.Tested.{Tested}
 use Rattle.trial.specs.declared.Tested.the-variants.{Passed, Failed}
@@ -30,16 +30,9 @@ abbrev at : Float → List Float
 at x = +0 ∷ x ∷ +0 ∷ []
 
 pub case-asked : (x : Float) → Asked (row 3) labels values (at x)
-unfolding cells
+unfolding cells sidesFit between
 case-asked x = record {
-  sides = record {
-    nx-one = omega arith;
-    nx-32 = omega arith;
-    ny-one = omega arith;
-    ny-32 = omega arith;
-    nz-one = omega arith;
-    nz-32 = omega arith;
-  };
+  sides = fit (row 3) refl;
   labelled = refl;
   valued = refl;
   long = refl;

@@ -4,8 +4,6 @@ use mathlib.Core.Logic.{⊎-elim}
 use mathlib.Core.Bool.{Bool, true, false, not, _&&_, _||_, cond}
 use mathlib.Core.List.{List, map, _∷_, _++_, append-nil}
 use Prim.Native.Nat.{ℕ, zero, suc, _+_, _^_, _≤_, _<_}
-use native.Mathlib.Nat.{eq-or-lt-of-le, le-of-suc-le-suc}
-use native.Mathlib.Numerals.{add-one}
 use native.Mathlib.Omega.{arith}
 use borrow.Author.Tests.{eq-eqb, ne-eqb, le-leb, lt-leb}
 use lib.Dec.{eqb, leb}
@@ -21,9 +19,9 @@ use Rattle.laws.specs.Whole.{_+ᶻ_}
 use Rattle.laws.proofs.Naturals.{le-or-lt}
 use Rattle.laws.proofs.Lists.{getD-tab}
 use Rattle.laws.proofs.Zed.{abs-add}
-use Rattle.laws.proofs.Fill.{tab-same}
+use Rattle.laws.proofs.Fill.{tab-same, up-same}
 use Rattle.laws.proofs.Fills.{filled-front}
-use Rattle.laws.proofs.Loops.{ups}
+use Rattle.laws.proofs.Loops.{ups, up-first}
 use Rattle.method.specs.declared.Sides.{Sides}
 use Rattle.method.specs.declared.Settings.{Settings}
 use Rattle.method.specs.declared.Tick.{Tick}
@@ -39,7 +37,7 @@ use Rattle.ticks.proofs.TickWhole.{tick-within}
 use Rattle.ticks.proofs.Laws.{walks, Gathering, gathering-next, count-open, count-wall, sum-open, sum-wall}
 use Rattle.trial.specs.declared.Tested.the-variants.{Passed, Failed}
 use Rattle.trial.specs.Trial.{tested}
-use Rattle.trial.specs.Cells.{roundedOn, pressureBy, Pressure, Added, refusedAt, someRefused}
+use Rattle.trial.specs.Cells.{roundedOn, pressureBy, Pressure, Added, refusedStep}
 
 -- ---- a cell's pressure, by its label
 whole-within : (x : Float) → natAbs (wholeOf (tick x)) ≤ 2 ^ 41
@@ -102,77 +100,54 @@ module _ (g : Sides) (ls : List ℕ) (vs : List ℤ) (x : List Float) where
   pressure-is j l p long e h = h .is ∙ ap (λ m. pressureBy m (field vs j) (value x j)) e ∙ pressure-at j long
 
 -- ---- refused ticks
-or-true : (b : Bool) {c : Bool} → c ≡ true → (b || c) ≡ true
-or-true true e = refl
-or-true false e = e
+or-false : (b : Bool) → b ≡ (b || false)
+or-false true = refl
+or-false false = refl
 
--- two tests of all cells that agree at each
-any-tab : {A B : Type 0} (p : A → Bool) (q : B → Bool) (n : ℕ) (f : ℕ → A) (h : ℕ → B) → ((c : ℕ) → p (f c) ≡ q (h c)) → any p (tab n f) ≡ any q (tab n h)
-unfolding any tab
-any-tab p q zero f h e = refl
-any-tab p q (suc n) f h e = ap₂ _||_ (e 0) (any-tab p q n (λ k. f (suc k)) (λ k. h (suc k)) (λ c. e (suc c)))
+or-true : (b : Bool) → true ≡ (b || true)
+or-true true = refl
+or-true false = refl
 
-any-none : {A : Type 0} (p : A → Bool) (n : ℕ) (f : ℕ → A) → ((c : ℕ) → c < n → p (f c) ≡ false) → any p (tab n f) ≡ false
-unfolding any tab
-any-none p zero f e = refl
-any-none p (suc n) f e = ap₂ _||_ (e 0 (omega arith)) (any-none p n (λ k. f (suc k)) (λ c l. e (suc c) (omega arith)))
+or-assoc : (a b c : Bool) → ((a || b) || c) ≡ (a || (b || c))
+or-assoc true b c = refl
+or-assoc false b c = refl
 
-any-hit : {A : Type 0} (p : A → Bool) (n : ℕ) (f : ℕ → A) (c : ℕ) → c < n → p (f c) ≡ true → any p (tab n f) ≡ true
-unfolding any tab
-any-hit p zero f c l e = absurd (omega arith)
-any-hit p (suc n) f zero l e = ap (λ b. b || any p (tab n (λ k. f (suc k)))) e
-any-hit p (suc n) f (suc c) l e = or-true (p (f 0)) (any-hit p n (λ k. f (suc k)) c (omega arith) e)
+-- a test of all elements is a loop
+any-up : {A : Type 0} (p : A → Bool) (n : ℕ) (f : ℕ → A) (b : Bool) → up (λ c s. s || p (f c)) n b ≡ (b || any p (tab n f))
+unfolding any tab up
+any-up p zero f b = or-false b
+any-up p (suc n) f b = up-first (λ c s. s || p (f c)) n b ∙ any-up p n (λ k. f (suc k)) (b || p (f 0)) ∙ or-assoc b (p (f 0)) (any p (tab n (λ k. f (suc k))))
 
-refused-cond : (b : Bool) (t : Tick) (z : ℤ) → isRefused (cond b t (Whole z)) ≡ cond b (isRefused t) false
+refused-cond : (air b : Bool) (t : Tick) (z : ℤ) → cond air (b || isRefused t) b ≡ (b || isRefused (cond air t (Whole z)))
 unfolding isRefused
-refused-cond true t z = refl
-refused-cond false t z = refl
+refused-cond true b t z = refl
+refused-cond false b t z = or-false b
 
-pub some-refused : (g : Sides) (ls : List ℕ) (vs : List ℤ) (x : List Float) → length ls ≡ cells g
-    → someRefused ls x ≡ any isRefused (ticks (record { sides = g; labels = ls; values = vs }) x)
-unfolding someRefused refusedAt ticks
+some-refused : (g : Sides) (ls : List ℕ) (vs : List ℤ) (x : List Float) → length ls ≡ cells g
+    → up (refusedStep ls x) (length ls) false ≡ any isRefused (ticks (record { sides = g; labels = ls; values = vs }) x)
+unfolding refusedStep ticks
 some-refused g ls vs x e =
-    ap (λ n. any (refusedAt ls x) (tab n (λ c. c))) e
-    ∙ any-tab (refusedAt ls x) isRefused (cells g) (λ c. c) _ (λ c. sym (refused-cond (isAir ls c) (tick (value x c)) (level ls vs c)))
+    ap (λ n. up (refusedStep ls x) n false) e
+    ∙ up-same _ _ false (cells g) (λ c b l. refused-cond (isAir ls c) b (tick (value x c)) (level ls vs c))
+    ∙ any-up isRefused (cells g) (λ c. cond (isAir ls c) (tick (value x c)) (Whole (level ls vs c))) false
 
 -- one cell, by its label l
-module _ (ls : List ℕ) (x : List Float) (c l : ℕ) (e : l ≡ labelAt ls c) where
-  refused-air : l ≡ 0 → isRefused (tick (value x c)) ≡ refusedAt ls x c
-  unfolding refusedAt isAir
-  refused-air k = rw (eq-eqb (labelAt ls c) 0 (omega arith))
+module _ (ls : List ℕ) (x : List Float) (c l : ℕ) (b : Bool) (e : l ≡ labelAt ls c) where
+  refused-air : (t : Tick) → l ≡ 0 → t ≡ tick (value x c) → (b || isRefused t) ≡ refusedStep ls x c b
+  unfolding refusedStep isAir
+  refused-air t k q = rw (eq-eqb (labelAt ls c) 0 (omega arith)) (ap (λ u. b || isRefused u) q)
 
-  pub refused-kept : (t : Tick) (z : ℤ) → l ≡ 0 → t ≡ tick (value x c) → t ≡ Whole z → false ≡ refusedAt ls x c
+  pub refused-kept : (t : Tick) (z : ℤ) → l ≡ 0 → t ≡ tick (value x c) → t ≡ Whole z → b ≡ refusedStep ls x c b
   unfolding isRefused
-  refused-kept t z k q w = ap isRefused (sym w ∙ q) ∙ refused-air k
+  refused-kept t z k q w = or-false b ∙ ap (λ u. b || isRefused u) (sym w) ∙ refused-air t k q
 
-  pub refused-lost : (t : Tick) → l ≡ 0 → t ≡ tick (value x c) → t ≡ Refused → true ≡ refusedAt ls x c
+  pub refused-lost : (t : Tick) → l ≡ 0 → t ≡ tick (value x c) → t ≡ Refused → true ≡ refusedStep ls x c b
   unfolding isRefused
-  refused-lost t k q w = ap isRefused (sym w ∙ q) ∙ refused-air k
+  refused-lost t k q w = or-true b ∙ ap (λ u. b || isRefused u) (sym w) ∙ refused-air t k q
 
-  pub refused-not : (l ≡ 0 → ⊥) → false ≡ refusedAt ls x c
-  unfolding refusedAt isAir
+  pub refused-not : (l ≡ 0 → ⊥) → b ≡ refusedStep ls x c b
+  unfolding refusedStep isAir
   refused-not k = rw (ne-eqb (labelAt ls c) 0 (λ z. k (e ∙ z)))
-
--- no cell before i is refused
-pub record None (ls : List ℕ) (x : List Float) (i : ℕ) : Type 0 where
-  pub none-below : (j : ℕ) → j < i → refusedAt ls x j ≡ false
-
-pub none-start : {ls : List ℕ} {x : List Float} → None ls x 0
-none-start = record { none-below = λ j l. absurd (omega arith) }
-
-pub none-more : {ls : List ℕ} {x : List Float} {i : ℕ} (r : Bool) → None ls x i → r ≡ refusedAt ls x i → r ≡ false → None ls x (i + 1)
-none-more {ls} {x} {i} r h e f = record { none-below = λ j l. go j (rw add-one at l) }
-  where
-    go : (j : ℕ) → j < suc i → refusedAt ls x j ≡ false
-    go j l = ⊎-elim (λ q. ap (refusedAt ls x) q ∙ sym e ∙ f) (λ k. h .none-below j k) (eq-or-lt-of-le (le-of-suc-le-suc l))
-
-pub none-hit : (ls : List ℕ) (x : List Float) (i : ℕ) (r : Bool) → i < length ls → r ≡ refusedAt ls x i → r ≡ true → true ≡ someRefused ls x
-unfolding someRefused
-none-hit ls x i r l e f = sym (any-hit (refusedAt ls x) (length ls) (λ c. c) i l (sym e ∙ f))
-
-pub none-end : (ls : List ℕ) (x : List Float) (i : ℕ) → None ls x i → length ls ≤ i → false ≡ someRefused ls x
-unfolding someRefused
-none-end ls x i h l = sym (any-none (refusedAt ls x) (length ls) (λ c. c) (λ c k. h .none-below c (omega arith)))
 
 -- ---- a cell across a face, by its label l
 module _ (g : Sides) (ls : List ℕ) (vs : List ℤ) (x : List Float) (j l : ℕ) (e : l ≡ labelAt ls j) (long : length ls ≡ cells g) where
@@ -199,7 +174,7 @@ pub gathering-added : {ls : List ℕ} {ps : List ℤ} {near : List ℕ} {i : ℕ
 gathering-added h v = gathering-next (v .small) h (v .visited)
 
 -- ---- the verdict
-module _ (g : Sides) (ls : List ℕ) (vs : List ℤ) (x : List Float) (t : Settings) (b : Bool) (long : length ls ≡ cells g) (e : b ≡ someRefused ls x) where
+module _ (g : Sides) (ls : List ℕ) (vs : List ℤ) (x : List Float) (t : Settings) (b : Bool) (long : length ls ≡ cells g) (e : b ≡ up (refusedStep ls x) (length ls) false) where
   passes-is : (w : ℕ) → w ≡ worst (record { sides = g; labels = ls; values = vs }) (roundedOn g ls vs x)
       → passes (record { sides = g; labels = ls; values = vs }) t x ≡ (not b && leb w (t .tolerance))
   unfolding passes
@@ -235,4 +210,4 @@ written g ls vs x old new e f h =
     ∙ append-nil _
     ∙ sym (rounded-tab g ls vs x)
 
-pub ruleset trials = (walks, ups, pressure-air, pressure-opening, pressure-wall, refused-kept, refused-lost, refused-not, none-start, none-more, none-hit, none-end, label-inside, added-open, added-wall, gathering-added, refused-fails, within-passes, beyond-fails, put, length-set)
+pub ruleset trials = (walks, ups, pressure-air, pressure-opening, pressure-wall, refused-kept, refused-lost, refused-not, label-inside, added-open, added-wall, gathering-added, refused-fails, within-passes, beyond-fails, put, length-set)

@@ -1,14 +1,12 @@
--- The test cell by cell: a cell's pressure by its label, what a cell across a face adds, which ticks are refused.
+-- The test cell by cell: a cell's pressure by its label, what a cell across a face adds, whether a tick is refused.
 use Prim.Native.Nat.{ℕ, zero, suc, _+_, _^_, _≤_}
-use mathlib.Core.Bool.{Bool, false, cond}
+use mathlib.Core.Bool.{Bool, _||_, cond}
 use mathlib.Core.Path.{_≡_}
 use mathlib.Core.List.{List}
 use lib.IntN.{ℤ, pos, natAbs}
 use lib.Ieee.{Float}
-use lib.ListN.{length}
-use Rattle.laws.specs.Lists.{tab, any}
 use Rattle.method.specs.declared.Sides.{Sides}
-use Rattle.method.specs.Cast.{labelAt, isAir, field}
+use Rattle.method.specs.Cast.{isAir}
 use Rattle.method.specs.Levels.{value}
 use Rattle.method.specs.Rounds.{tick, isRefused, wholeOf, rounded}
 use Rattle.ticks.specs.declared.Faces.{Faces}
@@ -33,9 +31,6 @@ pub record Added (ls : List ℕ) (ps : List ℤ) (j : ℕ) (a r : Faces) : Type 
   pub visited : Visited ls ps j a r
   pub small : natAbs (r .sum) ≤ natAbs (a .sum) + 2 ^ 41
 
--- whether cell c has a tick that is refused, and whether some cell has
-unfoldable pub refusedAt : List ℕ → List Float → ℕ → Bool
-refusedAt ls x c = cond (isAir ls c) (isRefused (tick (value x c))) false
-
-unfoldable pub someRefused : List ℕ → List Float → Bool
-someRefused ls x = any (refusedAt ls x) (tab (length ls) (λ c. c))
+-- whether a tick was refused before cell c, or is there
+unfoldable pub refusedStep : List ℕ → List Float → ℕ → Bool → Bool
+refusedStep ls x c b = cond (isAir ls c) (b || isRefused (tick (value x c))) b

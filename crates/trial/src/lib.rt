@@ -1,16 +1,18 @@
 // Document 01's test of a round: x rounded to whole ticks, and judged by the exact residuals that these leave. Each tick is taken
 // from x where it is wanted, so the test needs no room.
 ghost use mathlib.Core.Path.{_≡_};
+ghost use mathlib.Core.Bool.{false};
 ghost use Prim.Native.Nat.{_≤_, _<_, _^_};
 ghost use lib.IntN.{natAbs};
 ghost use lib.ListN.{length, set};
+ghost use Rattle.laws.specs.Loops.{up};
 ghost use Rattle.method.specs.Cast.{cells, labelAt, field, worst};
 ghost use Rattle.method.specs.Levels.{value};
 ghost use Rattle.method.specs.Rounds.{rounded};
 ghost use Rattle.ticks.specs.Faces.{Gathered, Residual};
 ghost use Rattle.ticks.specs.Worst.{worstStep};
 ghost use Rattle.trial.specs.Trial.{Asked, tested};
-ghost use Rattle.trial.specs.Cells.{roundedOn, pressureBy, Pressure, Added, refusedAt, someRefused};
+ghost use Rattle.trial.specs.Cells.{roundedOn, pressureBy, Pressure, Added, refusedStep};
 use grid::near::label_at;
 use method::Settings;
 use method::Sides;
@@ -107,33 +109,32 @@ fn worst_of(g: Sides, labels: &[u8], values: &[i32], x: &[f64]) -> u64
     w
 }
 
-// Whether cell c is air and its tick refused.
-fn refused_at(labels: &[u8], x: &[f64], c: usize) -> bool
+// Whether a tick was refused before cell c, or is at c, where c is air.
+fn refused_at(labels: &[u8], x: &[f64], c: usize, before: bool) -> bool
     requires { ⌜ c < length (now x) ⌝ }
-    ensures { λ r. ⌜ r ≡ refusedAt (now (labels .entry)) (now (x .entry)) c ⌝ }
+    ensures { λ r. ⌜ r ≡ refusedStep (now (labels .entry)) (now (x .entry)) c before ⌝ }
 {
     if label_at(labels, c) != 0 {
-        return false;
+        return before;
     }
     match ticks::tick::to_tick(x[c]) {
-        Tick::Whole(_) => false,
+        Tick::Whole(_) => before,
         Tick::Refused => true,
     }
 }
 
-// Whether some tick is refused; left at the first.
+// Whether some tick is refused.
 fn some_refused(labels: &[u8], x: &[f64]) -> bool
     requires { ⌜ length (now x) ≡ length (now labels) ⌝ }
-    ensures { λ r. ⌜ r ≡ someRefused (now (labels .entry)) (now (x .entry)) ⌝ }
+    ensures { λ r. ⌜ r ≡ up (refusedStep (now (labels .entry)) (now (x .entry))) (length (now (labels .entry))) false ⌝ }
 {
+    let mut refused = false;
     let mut c = 0;
     while c < labels.len() {
-        if refused_at(labels, x, c) {
-            return true;
-        }
+        refused = refused_at(labels, x, c, refused);
         c += 1;
     }
-    false
+    refused
 }
 
 // The test: every tick is kept, and the worst residual is within the tolerance.

@@ -4,13 +4,12 @@ use Prim.Native.Nat.{_≤_, _^_}
 use native.Mathlib.Omega.{arith}
 use denote.Ref.{now}
 use lib.IntN.{ℤ, pos, natAbs}
-use mir.Syntax.{w32, w64}
+use mir.Syntax.{w64}
 use mir.Val.{SFits}
 use mir.Facts.{toZ-ofZ}
 use Rattle.laws.specs.Whole.{_+ᶻ_, _-ᶻ_, _*ᶻ_}
 use Rattle.method.specs.Cast.{field}
-use Rattle.whole.proofs.Laws.{wholes, abs-32}
-use Rattle.ticks.proofs.Laws.{walks, residual-made}
+use Rattle.ticks.proofs.Laws.{walks, residual-made, source-is}
 use borrow.Author.Needs.{needs}
 use Rattle.ticks.proofs.residual_at.Statement.{statement}
 use Rattle.ticks.proofs.residual_at.Tie as tie
@@ -38,11 +37,7 @@ shared-slice-copy-out-residual-of c = search needs
 
 -- the source, as `wide` hands it back
 source : (c : tie.After-wide) → (c .wide .result ≡ field (now (start c .args .values)) (start c .args .c)) × (natAbs (c .wide .result) ≤ 2 ^ 31)
-source c =
-    let v : ℤ = field (now (start c .args .values)) (start c .args .c) in
-    let f : SFits w32 v = record { sfits = c .before .wide-arg .given } in
-    let e : c .wide .result ≡ v = search wholes in
-    (e, omega (arith, ap natAbs e, abs-32 v f))
+source c = source-is (field (now (start c .args .values)) (start c .args .c)) (c .wide .result) (record { sfits = c .before .wide-arg .given }) (c .wide .ensures)
 
 residual-of-requires : tie.Need-residual-of-requires
 residual-of-requires c κs =
