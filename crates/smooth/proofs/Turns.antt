@@ -20,11 +20,11 @@ use Rattle.smooth.proofs.Sums.{value-front, airSum-front, airSum-take}
 
 -- ---- the label as the code reads it
 module _ (ls : List ℕ) (c : ℕ) (h : c < length ls) where
-  air-yes : getD ls c 0 ≡ 0 → isAir ls c ≡ true
+  pub air-yes : getD ls c 0 ≡ 0 → isAir ls c ≡ true
   unfolding isAir
   air-yes e = eq-eqb (labelAt ls c) 0 (sym (label-in ls c h) ∙ e)
 
-  air-no : (getD ls c 0 ≡ 0 → ⊥) → isAir ls c ≡ false
+  pub air-no : (getD ls c 0 ≡ 0 → ⊥) → isAir ls c ≡ false
   unfolding isAir
   air-no e = ne-eqb (labelAt ls c) 0 (λ p. e (label-in ls c h ∙ p))
 

@@ -1,0 +1,70 @@
+// What a round of conjugate gradients does to the fields, in a room that holds x, p, z, r and t, one element a cell each, and
+// what follows. What isn't air becomes zero.
+ghost use mathlib.Core.Path.{_≡_};
+ghost use mathlib.Core.List.{_++_};
+ghost use Prim.Native.Nat.{_+_, _*_, _≤_, _<_, _^_};
+ghost use lib.ListN.{length, take, drop};
+ghost use lib.IntN.{natAbs};
+ghost use Rattle.laws.specs.Binary64.{_⊕_, _⊖_, _⊗_};
+ghost use Rattle.method.specs.Cast.{cells};
+ghost use Rattle.method.specs.Levels.{value, inAir};
+ghost use Rattle.method.specs.Cycle.{applied, zeros};
+ghost use Rattle.method.specs.Rounds.{dot, direction, rightSide};
+ghost use Rattle.theory.proofs.Sides.{Fit};
+ghost use Rattle.fields.specs.Fields.{x-of, p-of, z-of, r-of, t-of, Held};
+ghost use Rattle.fields.specs.Turns.{Within, dotTurn, applyTurn, aimTurn, advanceTurn, reduceTurn, levelStep, wholeSide, loadTurn};
+
+// The sum with cell c's product, where c is air.
+fn dot_at(a: &[f64], b: &[f64], labels: &[u8], c: usize, sum: f64) -> f64
+    requires { ⌜ (c < length (now labels)) × ((c < length (now a)) × (c < length (now b))) ⌝ }
+    ensures { λ r. ⌜ r ≡ dotTurn (now (labels .entry)) (now (a .entry)) (now (b .entry)) c sum ⌝ }
+{
+    if labels[c] == 0 {
+        sum + a[c] * b[c]
+    } else {
+        sum
+    }
+}
+
+// The dot product of two fields over air cells, from +0.0, ascending.
+pub fn dot(a: &[f64], b: &[f64], labels: &[u8], g: method::Sides) -> f64
+    requires { ⌜ Fit g ⌝ }
+    requires { ⌜ (length (now labels) ≡ cells g) × ((cells g ≤ length (now a)) × (cells g ≤ length (now b))) ⌝ }
+    ensures { λ r. ⌜ r ≡ dot g (now (labels .entry)) (value (now (a .entry))) (value (now (b .entry))) ⌝ }
+{
+    let mut sum = 0.0;
+    let mut c = 0;
+    while c < labels.len() {
+        sum = dot_at(a, b, labels, c, sum);
+        c += 1;
+    }
+    sum
+}
+
+// A p at one cell, into t.
+fn apply_at(room: &mut [f64], labels: &[u8], g: method::Sides, c: usize)
+    requires { ⌜ Held g (now labels) (now room) ⌝ }
+    requires { ⌜ c < cells g ⌝ }
+    ensures { λ _. ⌜ now (room .exit) ≡ applyTurn g (now (labels .entry)) c (now (room .entry)) ⌝ }
+{
+    let n = labels.len();
+    let t = 4 * n + c;
+    if labels[c] == 0 {
+        let v = smooth::applied_at(&room[n..2 * n], labels, g, c);
+        room[t] = v;
+    } else {
+        room[t] = 0.0;
+    }
+}
+
+// A p into t.
+pub fn apply(room: &mut [f64], labels: &[u8], g: method::Sides)
+    requires { ⌜ Held g (now labels) (now room) ⌝ }
+    ensures { λ _. ⌜ now (room .exit) ≡ take (4 * cells g) (now (room .entry)) ++ (inAir g (now (labels .entry)) (applied g (now (labels .entry)) (p-of (cells g) (now (room .entry)))) ++ drop (5 * cells g) (now (room .entry))) ⌝ }
+{
+    let mut c = 0;
+    while c < labels.len() {
+        apply_at(room, labels, g, c);
+        c += 1;
+    }
+}
