@@ -1,23 +1,23 @@
 -- What the loops over all cells make of the fields. Assumes nothing.
-use Prim.Native.Nat.{ℕ, _+_, _*_, _≤_, _<_}
+use Prim.Native.Nat.{ℕ, _+_, _-_, _*_, _≤_, _<_}
 use mathlib.Core.Path.{_≡_, refl, sym, ap, ap₂, _∙_}
 use mathlib.Core.Bool.{cond}
 use mathlib.Core.List.{List, _++_, append-assoc}
 use native.Mathlib.Omega.{arith}
-use lib.ListN.{length, take, drop}
+use lib.ListN.{length, set, take, drop}
 use lib.Seq.{getD-take, getD-drop}
 use lib.Ieee.{Float, nan}
-use Rattle.laws.specs.Binary64.{+0}
+use Rattle.laws.specs.Binary64.{_⊕_, _⊖_, _⊗_, +0}
 use Rattle.laws.specs.Loops.{up}
-use Rattle.laws.proofs.Loops.{ups}
-use Rattle.laws.proofs.Fill.{filled, tab-same, part-take}
+use Rattle.laws.proofs.Loops.{Up, up-end, ups}
+use Rattle.laws.proofs.Fill.{up-same, filled, tab-same, part-take}
 use Rattle.method.specs.declared.Sides.{Sides}
 use Rattle.method.specs.Cast.{cells, isAir}
 use Rattle.method.specs.Levels.{value, inAir}
 use Rattle.method.specs.Cycle.{applied}
-use Rattle.method.specs.Rounds.{dot}
-use Rattle.fields.specs.Fields.{p-of}
-use Rattle.fields.specs.Turns.{dotTurn, turn, applyTurn, applyValue}
+use Rattle.method.specs.Rounds.{dot, direction}
+use Rattle.fields.specs.Fields.{x-of, p-of, z-of, r-of, t-of}
+use Rattle.fields.specs.Turns.{dotTurn, turn, applyTurn, aimValue, aimTurn, advanceValue, advanceTurn, reduceValue, reduceTurn}
 
 -- ---- sums
 pub dot-is : (g : Sides) (ls : List ℕ) (a b : List Float) (s : Float) → length ls ≡ cells g → s ≡ up (dotTurn ls a b) (length ls) +0
@@ -49,4 +49,56 @@ apply-is g ls s t e h q =
     (λ c l. refl)
     ∙ ap (λ m. take (4 * cells g) s ++ (inAir g ls (applied g ls (p-of (cells g) s)) ++ drop m s)) n
 
-pub ruleset loops = (ups, dot-is, apply-is)
+-- ---- values of the room from k on, where it is as it was
+beyond : (k : ℕ) (r s : List Float) (j : ℕ) → drop k r ≡ drop k s → k ≤ j → value r j ≡ value s j
+beyond k r s j e h =
+    let q : k + (j - k) ≡ j = omega arith in
+    ap (value r) (sym q) ∙ sym (getD-drop k r (j - k) nan) ∙ ap (λ l. value l (j - k)) e ∙ getD-drop k s (j - k) nan ∙ ap (value s) q
+
+-- the field that begins at k, by its element
+at : (n k : ℕ) (s : List Float) (c : ℕ) → c < n → value s (k + c) ≡ value (take n (drop k s)) c
+at n k s c h = sym (getD-take n (drop k s) c nan h ∙ getD-drop k s c nan)
+
+-- ---- the others, h being what the contract says of a cell
+module _ (g : Sides) (ls : List ℕ) (s t : List Float) (i : ℕ) (h : ℕ → Float)
+    (e : length ls ≡ cells g) (fits : 5 * cells g ≤ length s) (a : i ≤ length ls) (b : length ls ≤ i) where
+  pub aim-is : (done : ℕ) (beta : Float) → Up (aimTurn ls done beta) s i t
+      → ((c : ℕ) → direction done beta (value (z-of (cells g) s) c) (value (p-of (cells g) s) c) ≡ h c)
+      → t ≡ take (cells g) s ++ (inAir g ls h ++ drop (2 * cells g) s)
+  unfolding aimTurn
+  aim-is done beta u is =
+      let n : cells g + cells g ≡ 2 * cells g = omega arith in
+      up-end (length ls) u a b ∙ ap (λ n. up (turn ls n (aimValue n done beta)) n s) e
+      ∙ made g ls (cells g) (aimValue (cells g) done beta) h s (omega arith)
+      (λ c r l a b. ap₂ (direction done beta) (beyond (cells g + c) r s (2 * cells g + c) b (omega arith)) (beyond (cells g + c) r s (cells g + c) b (omega arith)))
+      (λ c l. ap₂ (direction done beta) (at (cells g) (2 * cells g) s c l) (at (cells g) (cells g) s c l) ∙ is c)
+      ∙ ap (λ m. take (cells g) s ++ (inAir g ls h ++ drop m s)) n
+
+  -- x begins the room
+  pub advance-is : (alpha : Float) → Up (advanceTurn ls alpha) s i t
+      → ((c : ℕ) → value (x-of (cells g) s) c ⊕ alpha ⊗ value (p-of (cells g) s) c ≡ h c)
+      → t ≡ inAir g ls h ++ drop (cells g) s
+  unfolding advanceTurn
+  advance-is alpha u is =
+      let none : (m : ℕ) → 0 + m ≡ m = λ m. omega arith in
+      let f : ℕ → List Float → Float = advanceValue (cells g) alpha in
+      up-end (length ls) u a b ∙ ap (λ n. up (λ c r. set r c (cond (isAir ls c) (advanceValue n alpha c r) +0)) n s) e
+      ∙ up-same _ (turn ls 0 f) s (cells g) (λ c r l. ap (λ m. set r m (cond (isAir ls c) (f c r) +0)) (sym (none c)))
+      ∙ made g ls 0 f h s (omega arith)
+      (λ c r l a b. ap₂ (λ x p. x ⊕ alpha ⊗ p) (beyond (0 + c) r s c b (omega arith)) (beyond (0 + c) r s (cells g + c) b (omega arith)))
+      (λ c l. ap₂ (λ x p. x ⊕ alpha ⊗ p) (sym (getD-take (cells g) s c nan l)) (at (cells g) (cells g) s c l) ∙ is c)
+      ∙ ap (λ m. inAir g ls h ++ drop m s) (none (cells g))
+
+  pub reduce-is : (alpha : Float) → Up (reduceTurn ls alpha) s i t
+      → ((c : ℕ) → value (r-of (cells g) s) c ⊖ alpha ⊗ value (t-of (cells g) s) c ≡ h c)
+      → t ≡ take (3 * cells g) s ++ (inAir g ls h ++ drop (4 * cells g) s)
+  unfolding reduceTurn
+  reduce-is alpha u is =
+      let n : 3 * cells g + cells g ≡ 4 * cells g = omega arith in
+      up-end (length ls) u a b ∙ ap (λ n. up (turn ls (3 * n) (reduceValue n alpha)) n s) e
+      ∙ made g ls (3 * cells g) (reduceValue (cells g) alpha) h s (omega arith)
+      (λ c r l a b. ap₂ (λ x y. x ⊖ alpha ⊗ y) (beyond (3 * cells g + c) r s (3 * cells g + c) b (omega arith)) (beyond (3 * cells g + c) r s (4 * cells g + c) b (omega arith)))
+      (λ c l. ap₂ (λ x y. x ⊖ alpha ⊗ y) (at (cells g) (3 * cells g) s c l) (at (cells g) (4 * cells g) s c l) ∙ is c)
+      ∙ ap (λ m. take (3 * cells g) s ++ (inAir g ls h ++ drop m s)) n
+
+pub ruleset loops = (ups, dot-is, apply-is, aim-is, advance-is, reduce-is)

@@ -1,6 +1,6 @@
 -- The kernels at one cell, by its label. Assumes nothing.
-use Prim.Native.Nat.{ℕ, _+_, _-_, _*_, _≤_, _<_}
-use mathlib.Core.Path.{_≡_, sym, ap, ap₂, _∙_}
+use Prim.Native.Nat.{ℕ, zero, suc, _+_, _-_, _*_, _≤_, _<_}
+use mathlib.Core.Path.{_≡_, refl, ap, _∙_}
 use mathlib.Core.Bool.{true, false, cond}
 use mathlib.Core.List.{List}
 use native.Mathlib.Omega.{arith}
@@ -12,9 +12,21 @@ use Rattle.method.specs.declared.Sides.{Sides}
 use Rattle.method.specs.Cast.{isAir}
 use Rattle.method.specs.Levels.{value}
 use Rattle.method.specs.Cycle.{applied}
+use Rattle.method.specs.Rounds.{direction}
 use Rattle.smooth.proofs.Turns.{air-yes, air-no}
 use Rattle.fields.specs.Turns.{dotTurn, applyTurn}
 
+-- ---- the direction, by the number of rounds done
+pub first-round : (done : ℕ) (beta z p : Float) → done ≡ 0 → z ≡ direction done beta z p
+unfolding direction
+first-round done beta z p e = rw e
+
+pub later-round : (done : ℕ) (beta z p : Float) → (done ≡ 0 → ⊥) → z ⊕ beta ⊗ p ≡ direction done beta z p
+unfolding direction
+later-round zero beta z p h = absurd (h refl)
+later-round (suc k) beta z p h = refl
+
+-- ---- by the cell's label
 module _ (ls : List ℕ) (c : ℕ) (h : c < length ls) where
   -- a sum
   pub sum-air : (a b : List Float) (s : Float) → getD ls c 0 ≡ 0 → s ⊕ value a c ⊗ value b c ≡ dotTurn ls a b c s
@@ -41,4 +53,4 @@ module _ (ls : List ℕ) (c : ℕ) (h : c < length ls) where
       let n : 2 * length ls - length ls ≡ length ls = omega arith in
       stores-as r (4 * length ls + c) v (applied g ls (take (length ls) (drop (length ls) r)) c) e (q ∙ ap (λ m. applied g ls (take m (drop (length ls) r)) c) n)
 
-pub ruleset cell = (needs, sum-air, sum-other, stores, stores-as, clears, applies)
+pub ruleset cell = (needs, first-round, later-round, sum-air, sum-other, stores, stores-as, clears, applies)

@@ -39,21 +39,21 @@ applyTurn g ls c r = turn ls (4 * length ls) (applyValue g ls) c r
 abbrev pub aimValue : ℕ → ℕ → Float → ℕ → List Float → Float
 aimValue n done beta c r = direction done beta (value r (2 * n + c)) (value r (n + c))
 
-abbrev pub aimTurn : List ℕ → ℕ → Float → ℕ → List Float → List Float
+unfoldable pub aimTurn : List ℕ → ℕ → Float → ℕ → List Float → List Float
 aimTurn ls done beta c r = turn ls (length ls) (aimValue (length ls) done beta) c r
 
 -- x + alpha·p into x
 abbrev pub advanceValue : ℕ → Float → ℕ → List Float → Float
 advanceValue n alpha c r = value r c ⊕ alpha ⊗ value r (n + c)
 
-abbrev pub advanceTurn : List ℕ → Float → ℕ → List Float → List Float
+unfoldable pub advanceTurn : List ℕ → Float → ℕ → List Float → List Float
 advanceTurn ls alpha c r = set r c (cond (isAir ls c) (advanceValue (length ls) alpha c r) +0)
 
 -- r - alpha·t into r
 abbrev pub reduceValue : ℕ → Float → ℕ → List Float → Float
 reduceValue n alpha c r = value r (3 * n + c) ⊖ alpha ⊗ value r (4 * n + c)
 
-abbrev pub reduceTurn : List ℕ → Float → ℕ → List Float → List Float
+unfoldable pub reduceTurn : List ℕ → Float → ℕ → List Float → List Float
 reduceTurn ls alpha c r = turn ls (3 * length ls) (reduceValue (length ls) alpha) c r
 
 -- b: the source and the levels of the openings across the faces, whole; then into r

@@ -68,3 +68,91 @@ pub fn apply(room: &mut [f64], labels: &[u8], g: method::Sides)
         c += 1;
     }
 }
+
+// The direction at one cell: z in the first round, later z + beta·p.
+fn direction_of(done: u32, beta: f64, z: f64, p: f64) -> f64
+    ensures { λ r. ⌜ r ≡ direction done beta z p ⌝ }
+{
+    if done == 0 { z } else { z + beta * p }
+}
+
+// The new direction at one cell, into p.
+fn aim_at(room: &mut [f64], labels: &[u8], done: u32, beta: f64, c: usize)
+    requires { ⌜ Within (now labels) c (now room) ⌝ }
+    ensures { λ _. ⌜ now (room .exit) ≡ aimTurn (now (labels .entry)) done beta c (now (room .entry)) ⌝ }
+{
+    let n = labels.len();
+    if labels[c] == 0 {
+        let z = room[2 * n + c];
+        let p = room[n + c];
+        room[n + c] = direction_of(done, beta, z, p);
+    } else {
+        room[n + c] = 0.0;
+    }
+}
+
+// The new direction into p: z in the first round, later z + beta·p.
+pub fn aim(room: &mut [f64], labels: &[u8], g: method::Sides, done: u32, beta: f64)
+    requires { ⌜ Held g (now labels) (now room) ⌝ }
+    ensures { λ _. ⌜ now (room .exit) ≡ take (cells g) (now (room .entry)) ++ (inAir g (now (labels .entry)) (λ c. direction done beta (value (z-of (cells g) (now (room .entry))) c) (value (p-of (cells g) (now (room .entry))) c)) ++ drop (2 * cells g) (now (room .entry))) ⌝ }
+{
+    let mut c = 0;
+    while c < labels.len() {
+        aim_at(room, labels, done, beta, c);
+        c += 1;
+    }
+}
+
+// x + alpha·p at one cell, into x.
+fn advance_at(room: &mut [f64], labels: &[u8], alpha: f64, c: usize)
+    requires { ⌜ Within (now labels) c (now room) ⌝ }
+    ensures { λ _. ⌜ now (room .exit) ≡ advanceTurn (now (labels .entry)) alpha c (now (room .entry)) ⌝ }
+{
+    let n = labels.len();
+    if labels[c] == 0 {
+        let x = room[c];
+        let p = room[n + c];
+        room[c] = x + alpha * p;
+    } else {
+        room[c] = 0.0;
+    }
+}
+
+// x + alpha·p into x.
+pub fn advance(room: &mut [f64], labels: &[u8], g: method::Sides, alpha: f64)
+    requires { ⌜ Held g (now labels) (now room) ⌝ }
+    ensures { λ _. ⌜ now (room .exit) ≡ inAir g (now (labels .entry)) (λ c. value (x-of (cells g) (now (room .entry))) c ⊕ alpha ⊗ value (p-of (cells g) (now (room .entry))) c) ++ drop (cells g) (now (room .entry)) ⌝ }
+{
+    let mut c = 0;
+    while c < labels.len() {
+        advance_at(room, labels, alpha, c);
+        c += 1;
+    }
+}
+
+// r - alpha·t at one cell, into r.
+fn reduce_at(room: &mut [f64], labels: &[u8], alpha: f64, c: usize)
+    requires { ⌜ Within (now labels) c (now room) ⌝ }
+    ensures { λ _. ⌜ now (room .exit) ≡ reduceTurn (now (labels .entry)) alpha c (now (room .entry)) ⌝ }
+{
+    let n = labels.len();
+    if labels[c] == 0 {
+        let r = room[3 * n + c];
+        let t = room[4 * n + c];
+        room[3 * n + c] = r - alpha * t;
+    } else {
+        room[3 * n + c] = 0.0;
+    }
+}
+
+// r - alpha·t into r, where t holds A p.
+pub fn reduce(room: &mut [f64], labels: &[u8], g: method::Sides, alpha: f64)
+    requires { ⌜ Held g (now labels) (now room) ⌝ }
+    ensures { λ _. ⌜ now (room .exit) ≡ take (3 * cells g) (now (room .entry)) ++ (inAir g (now (labels .entry)) (λ c. value (r-of (cells g) (now (room .entry))) c ⊖ alpha ⊗ value (t-of (cells g) (now (room .entry))) c) ++ drop (4 * cells g) (now (room .entry))) ⌝ }
+{
+    let mut c = 0;
+    while c < labels.len() {
+        reduce_at(room, labels, alpha, c);
+        c += 1;
+    }
+}
