@@ -1,3 +1,4 @@
 -- Laws, each once.
 pub mod Turns
 pub mod Made
+pub mod RightSide

@@ -1,9 +1,10 @@
 -- What the kernels do at one cell. A field's element stands in the room so many labels further on.
-use Prim.Native.Nat.{ℕ, _+_, _*_, _≤_, _<_}
+use Prim.Native.Nat.{ℕ, _+_, _*_, _^_, _≤_, _<_}
+use mathlib.Core.Path.{_≡_}
 use mathlib.Core.Bool.{cond}
 use mathlib.Core.List.{List}
 use lib.ListN.{length, set}
-use lib.IntN.{ℤ}
+use lib.IntN.{ℤ, natAbs}
 use lib.Ieee.{Float}
 use Rattle.laws.specs.Lists.{over}
 use Rattle.laws.specs.Whole.{_+ᶻ_}
@@ -57,11 +58,22 @@ unfoldable pub reduceTurn : List ℕ → Float → ℕ → List Float → List F
 reduceTurn ls alpha c r = turn ls (3 * length ls) (reduceValue (length ls) alpha) c r
 
 -- b: the source and the levels of the openings across the faces, whole; then into r
-abbrev pub levelStep : List ℕ → List ℤ → ℕ → ℤ → ℤ
+unfoldable pub levelStep : List ℕ → List ℤ → ℕ → ℤ → ℤ
 levelStep ls vs j b = cond (isOpening ls j) (b +ᶻ level ls vs j) b
+
+pub record Levelled (ls : List ℕ) (vs : List ℤ) (j : ℕ) (b r : ℤ) : Type 0 where
+  pub is : r ≡ levelStep ls vs j b
+  pub small : natAbs r ≤ natAbs b + 2 ^ 31
 
 unfoldable pub wholeSide : Sides → List ℕ → List ℤ → ℕ → ℤ
 wholeSide g ls vs c = over (isOpening ls) (λ j b. b +ᶻ level ls vs j) (around g c) (field vs c)
 
+pub record WholeSide (g : Sides) (ls : List ℕ) (vs : List ℤ) (c : ℕ) (r : ℤ) : Type 0 where
+  pub is : r ≡ wholeSide g ls vs c
+  pub small : natAbs r ≤ 2 ^ 40
+
+abbrev pub loadValue : Sides → List ℕ → List ℤ → ℕ → List Float → Float
+loadValue g ls vs c r = ofℤ (wholeSide g ls vs c)
+
 abbrev pub loadTurn : Sides → List ℕ → List ℤ → ℕ → List Float → List Float
-loadTurn g ls vs c r = turn ls (3 * length ls) (λ c r. ofℤ (wholeSide g ls vs c)) c r
+loadTurn g ls vs c r = turn ls (3 * length ls) (loadValue g ls vs) c r

@@ -12,7 +12,7 @@ ghost use Rattle.method.specs.Cycle.{applied, zeros};
 ghost use Rattle.method.specs.Rounds.{dot, direction, rightSide};
 ghost use Rattle.theory.proofs.Sides.{Fit};
 ghost use Rattle.fields.specs.Fields.{x-of, p-of, z-of, r-of, t-of, Held};
-ghost use Rattle.fields.specs.Turns.{Within, dotTurn, applyTurn, aimTurn, advanceTurn, reduceTurn, levelStep, wholeSide, loadTurn};
+ghost use Rattle.fields.specs.Turns.{Within, dotTurn, applyTurn, aimTurn, advanceTurn, reduceTurn, Levelled, WholeSide, loadTurn};
 
 // The sum with cell c's product, where c is air.
 fn dot_at(a: &[f64], b: &[f64], labels: &[u8], c: usize, sum: f64) -> f64
@@ -155,4 +155,69 @@ pub fn reduce(room: &mut [f64], labels: &[u8], g: method::Sides, alpha: f64)
         reduce_at(room, labels, alpha, c);
         c += 1;
     }
+}
+
+// The sum with cell j's level, where it is an opening.
+fn level_at(labels: &[u8], values: &[i32], j: usize, sum: i64) -> i64
+    requires { ⌜ (length (now values) ≡ length (now labels)) × (natAbs sum ≤ 2 ^ 40) ⌝ }
+    ensures { λ r. ⌜ Levelled (now (labels .entry)) (now (values .entry)) j sum r ⌝ }
+{
+    if grid::near::label_at(labels, j) == 1 {
+        whole::plus(sum, whole::wide(values[j]))
+    } else {
+        sum
+    }
+}
+
+// b at cell c as a whole number: its source and the levels of the openings across its faces.
+fn whole_side(labels: &[u8], values: &[i32], g: method::Sides, c: usize) -> i64
+    requires { ⌜ Fit g × ((length (now labels) ≡ cells g) × ((length (now values) ≡ length (now labels)) × (c < cells g))) ⌝ }
+    ensures { λ r. ⌜ WholeSide g (now (labels .entry)) (now (values .entry)) c r ⌝ }
+{
+    let around = grid::near::neighbours(g, labels.len(), c);
+    let mut b = whole::wide(values[c]);
+    let mut i = 0;
+    while i < 6 {
+        b = level_at(labels, values, around[i], b);
+        i += 1;
+    }
+    b
+}
+
+// b at one cell, into r: converted once.
+fn load_at(room: &mut [f64], labels: &[u8], values: &[i32], g: method::Sides, c: usize)
+    requires { ⌜ Held g (now labels) (now room) ⌝ }
+    requires { ⌜ (length (now values) ≡ cells g) × (c < cells g) ⌝ }
+    ensures { λ _. ⌜ now (room .exit) ≡ loadTurn g (now (labels .entry)) (now (values .entry)) c (now (room .entry)) ⌝ }
+{
+    let n = labels.len();
+    if labels[c] == 0 {
+        let b = ticks::tick::whole_float(whole_side(labels, values, g, c));
+        room[3 * n + c] = b;
+    } else {
+        room[3 * n + c] = 0.0;
+    }
+}
+
+// b into r.
+fn load(room: &mut [f64], labels: &[u8], values: &[i32], g: method::Sides)
+    requires { ⌜ Held g (now labels) (now room) ⌝ }
+    requires { ⌜ length (now values) ≡ cells g ⌝ }
+    ensures { λ _. ⌜ now (room .exit) ≡ take (3 * cells g) (now (room .entry)) ++ (rightSide (record { sides = g; labels = now (labels .entry); values = now (values .entry) }) ++ drop (4 * cells g) (now (room .entry))) ⌝ }
+{
+    let mut c = 0;
+    while c < labels.len() {
+        load_at(room, labels, values, g, c);
+        c += 1;
+    }
+}
+
+// Before the first round: x and p are zero, r is b.
+pub fn start(room: &mut [f64], labels: &[u8], values: &[i32], g: method::Sides)
+    requires { ⌜ Held g (now labels) (now room) ⌝ }
+    requires { ⌜ length (now values) ≡ cells g ⌝ }
+    ensures { λ _. ⌜ now (room .exit) ≡ zeros g ++ (zeros g ++ (z-of (cells g) (now (room .entry)) ++ (rightSide (record { sides = g; labels = now (labels .entry); values = now (values .entry) }) ++ drop (4 * cells g) (now (room .entry))))) ⌝ }
+{
+    smooth::clear_front(room, 2 * labels.len());
+    load(room, labels, values, g);
 }
