@@ -1,4 +1,3 @@
 -- Laws, each once.
 pub mod Turns
 pub mod Made
-pub mod RightSide

@@ -19,8 +19,9 @@ use Rattle.method.specs.Cast.{cells, isAir}
 use Rattle.method.specs.Levels.{value, inAir}
 use Rattle.method.specs.Cycle.{applied, zeros}
 use Rattle.method.specs.Rounds.{dot, direction, rightSide}
+use Rattle.sources.specs.Sources.{wholeSide}
 use Rattle.fields.specs.Fields.{x-of, p-of, z-of, r-of, t-of}
-use Rattle.fields.specs.Turns.{dotTurn, turn, applyTurn, aimValue, aimTurn, advanceValue, advanceTurn, reduceValue, reduceTurn, wholeSide, loadValue, loadTurn}
+use Rattle.fields.specs.Turns.{dotTurn, turn, applyTurn, aimValue, aimTurn, advanceValue, advanceTurn, reduceValue, reduceTurn, loadValue, loadTurn}
 
 -- ---- sums
 pub dot-is : (g : Sides) (ls : List ℕ) (a b : List Float) (s : Float) → length ls ≡ cells g → s ≡ up (dotTurn ls a b) (length ls) +0

@@ -1,24 +1,20 @@
 -- The kernels at one cell, by its label. Assumes nothing.
-use Prim.Native.Nat.{ℕ, zero, suc, _+_, _-_, _*_, _≤_, _<_}
+use Prim.Native.Nat.{ℕ, zero, suc, _+_, _-_, _*_, _<_}
 use mathlib.Core.Path.{_≡_, refl, ap, _∙_}
-use mathlib.Core.Bool.{true, false, cond}
+use mathlib.Core.Bool.{cond}
 use mathlib.Core.List.{List}
 use native.Mathlib.Omega.{arith}
 use borrow.Author.Needs.{needs}
 use lib.ListN.{length, getD, set, take, drop}
-use lib.IntN.{ℤ}
 use lib.Ieee.{Float}
-use mir.Syntax.{w64}
-use mir.Val.{SFits, toZ, ofZ}
-use mir.Facts.{toZ-ofZ}
-use Rattle.laws.specs.Binary64.{_⊕_, _⊗_, +0, ofℤ}
+use Rattle.laws.specs.Binary64.{_⊕_, _⊗_, +0}
 use Rattle.method.specs.declared.Sides.{Sides}
 use Rattle.method.specs.Cast.{isAir}
 use Rattle.method.specs.Levels.{value}
 use Rattle.method.specs.Cycle.{applied}
 use Rattle.method.specs.Rounds.{direction}
 use Rattle.smooth.proofs.Turns.{air-yes, air-no}
-use Rattle.fields.specs.Turns.{dotTurn, applyTurn, wholeSide, WholeSide, loadTurn}
+use Rattle.fields.specs.Turns.{dotTurn, applyTurn}
 
 -- ---- the direction, by the number of rounds done
 pub first-round : (done : ℕ) (beta z p : Float) → done ≡ 0 → z ≡ direction done beta z p
@@ -57,9 +53,4 @@ module _ (ls : List ℕ) (c : ℕ) (h : c < length ls) where
       let n : 2 * length ls - length ls ≡ length ls = omega arith in
       stores-as r (4 * length ls + c) v (applied g ls (take (length ls) (drop (length ls) r)) c) e (q ∙ ap (λ m. applied g ls (take m (drop (length ls) r)) c) n)
 
-  -- b, converted
-  pub loads : (g : Sides) (vs : List ℤ) (r : List Float) (b : ℤ) (v : Float) → getD ls c 0 ≡ 0 → SFits w64 b → WholeSide g ls vs c b
-      → v ≡ ofℤ (toZ w64 (ofZ w64 b)) → set r (3 * length ls + c) v ≡ loadTurn g ls vs c r
-  loads g vs r b v e f q w = stores-as r (3 * length ls + c) v (ofℤ (wholeSide g ls vs c)) e (w ∙ ap ofℤ (toZ-ofZ f ∙ q .is))
-
-pub ruleset cell = (needs, first-round, later-round, sum-air, sum-other, stores, stores-as, clears, applies, loads)
+pub ruleset cell = (needs, first-round, later-round, sum-air, sum-other, stores, stores-as, clears, applies)

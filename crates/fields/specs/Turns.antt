@@ -1,19 +1,17 @@
 -- What the kernels do at one cell. A field's element stands in the room so many labels further on.
-use Prim.Native.Nat.{ℕ, _+_, _*_, _^_, _≤_, _<_}
-use mathlib.Core.Path.{_≡_}
+use Prim.Native.Nat.{ℕ, _+_, _*_, _≤_, _<_}
 use mathlib.Core.Bool.{cond}
 use mathlib.Core.List.{List}
 use lib.ListN.{length, set}
-use lib.IntN.{ℤ, natAbs}
+use lib.IntN.{ℤ}
 use lib.Ieee.{Float}
-use Rattle.laws.specs.Lists.{over}
-use Rattle.laws.specs.Whole.{_+ᶻ_}
 use Rattle.laws.specs.Binary64.{_⊕_, _⊖_, _⊗_, +0, ofℤ}
 use Rattle.method.specs.declared.Sides.{Sides}
-use Rattle.method.specs.Cast.{isAir, isOpening, around, field, level}
+use Rattle.method.specs.Cast.{isAir}
 use Rattle.method.specs.Levels.{value}
 use Rattle.method.specs.Cycle.{applied}
 use Rattle.method.specs.Rounds.{direction}
+use Rattle.sources.specs.Sources.{wholeSide}
 use Rattle.fields.specs.Fields.{p-of}
 
 -- a cell, and room for the five fields
@@ -57,21 +55,7 @@ reduceValue n alpha c r = value r (3 * n + c) ⊖ alpha ⊗ value r (4 * n + c)
 unfoldable pub reduceTurn : List ℕ → Float → ℕ → List Float → List Float
 reduceTurn ls alpha c r = turn ls (3 * length ls) (reduceValue (length ls) alpha) c r
 
--- b: the source and the levels of the openings across the faces, whole; then into r
-unfoldable pub levelStep : List ℕ → List ℤ → ℕ → ℤ → ℤ
-levelStep ls vs j b = cond (isOpening ls j) (b +ᶻ level ls vs j) b
-
-pub record Levelled (ls : List ℕ) (vs : List ℤ) (j : ℕ) (b r : ℤ) : Type 0 where
-  pub is : r ≡ levelStep ls vs j b
-  pub small : natAbs r ≤ natAbs b + 2 ^ 31
-
-unfoldable pub wholeSide : Sides → List ℕ → List ℤ → ℕ → ℤ
-wholeSide g ls vs c = over (isOpening ls) (λ j b. b +ᶻ level ls vs j) (around g c) (field vs c)
-
-pub record WholeSide (g : Sides) (ls : List ℕ) (vs : List ℤ) (c : ℕ) (r : ℤ) : Type 0 where
-  pub is : r ≡ wholeSide g ls vs c
-  pub small : natAbs r ≤ 2 ^ 40
-
+-- b into r
 abbrev pub loadValue : Sides → List ℕ → List ℤ → ℕ → List Float → Float
 loadValue g ls vs c r = ofℤ (wholeSide g ls vs c)
 

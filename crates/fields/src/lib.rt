@@ -2,9 +2,8 @@
 // what follows. What isn't air becomes zero.
 ghost use mathlib.Core.Path.{_≡_};
 ghost use mathlib.Core.List.{_++_};
-ghost use Prim.Native.Nat.{_+_, _*_, _≤_, _<_, _^_};
+ghost use Prim.Native.Nat.{_+_, _*_, _≤_, _<_};
 ghost use lib.ListN.{length, take, drop};
-ghost use lib.IntN.{natAbs};
 ghost use Rattle.laws.specs.Binary64.{_⊕_, _⊖_, _⊗_};
 ghost use Rattle.method.specs.Cast.{cells};
 ghost use Rattle.method.specs.Levels.{value, inAir};
@@ -12,7 +11,7 @@ ghost use Rattle.method.specs.Cycle.{applied, zeros};
 ghost use Rattle.method.specs.Rounds.{dot, direction, rightSide};
 ghost use Rattle.theory.proofs.Sides.{Fit};
 ghost use Rattle.fields.specs.Fields.{x-of, p-of, z-of, r-of, t-of, Held};
-ghost use Rattle.fields.specs.Turns.{Within, dotTurn, applyTurn, aimTurn, advanceTurn, reduceTurn, Levelled, WholeSide, loadTurn};
+ghost use Rattle.fields.specs.Turns.{Within, dotTurn, applyTurn, aimTurn, advanceTurn, reduceTurn, loadTurn};
 
 // The sum with cell c's product, where c is air.
 fn dot_at(a: &[f64], b: &[f64], labels: &[u8], c: usize, sum: f64) -> f64
@@ -157,34 +156,7 @@ pub fn reduce(room: &mut [f64], labels: &[u8], g: method::Sides, alpha: f64)
     }
 }
 
-// The sum with cell j's level, where it is an opening.
-fn level_at(labels: &[u8], values: &[i32], j: usize, sum: i64) -> i64
-    requires { ⌜ (length (now values) ≡ length (now labels)) × (natAbs sum ≤ 2 ^ 40) ⌝ }
-    ensures { λ r. ⌜ Levelled (now (labels .entry)) (now (values .entry)) j sum r ⌝ }
-{
-    if grid::near::label_at(labels, j) == 1 {
-        whole::plus(sum, whole::wide(values[j]))
-    } else {
-        sum
-    }
-}
-
-// b at cell c as a whole number: its source and the levels of the openings across its faces.
-fn whole_side(labels: &[u8], values: &[i32], g: method::Sides, c: usize) -> i64
-    requires { ⌜ Fit g × ((length (now labels) ≡ cells g) × ((length (now values) ≡ length (now labels)) × (c < cells g))) ⌝ }
-    ensures { λ r. ⌜ WholeSide g (now (labels .entry)) (now (values .entry)) c r ⌝ }
-{
-    let around = grid::near::neighbours(g, labels.len(), c);
-    let mut b = whole::wide(values[c]);
-    let mut i = 0;
-    while i < 6 {
-        b = level_at(labels, values, around[i], b);
-        i += 1;
-    }
-    b
-}
-
-// b at one cell, into r: converted once.
+// b at one cell, into r.
 fn load_at(room: &mut [f64], labels: &[u8], values: &[i32], g: method::Sides, c: usize)
     requires { ⌜ Held g (now labels) (now room) ⌝ }
     requires { ⌜ (length (now values) ≡ cells g) × (c < cells g) ⌝ }
@@ -192,8 +164,7 @@ fn load_at(room: &mut [f64], labels: &[u8], values: &[i32], g: method::Sides, c:
 {
     let n = labels.len();
     if labels[c] == 0 {
-        let b = ticks::tick::whole_float(whole_side(labels, values, g, c));
-        room[3 * n + c] = b;
+        room[3 * n + c] = sources::right_at(labels, values, g, c);
     } else {
         room[3 * n + c] = 0.0;
     }

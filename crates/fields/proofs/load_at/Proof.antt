@@ -1,9 +1,5 @@
 -- `fields::load_at` meets its contract, by the cell's label. Assumes nothing.
-use Prim.Native.Nat.{_^_, _≤_}
-use native.Mathlib.Omega.{arith}
 use borrow.Author.Needs.{needs}
-use lib.IntN.{natAbs}
-use Rattle.whole.proofs.Laws.{most-fits, wholes}
 use Rattle.fields.proofs.Turns.{cell}
 use Rattle.fields.proofs.load_at.Statement.{statement}
 use Rattle.fields.proofs.load_at.Tie as tie
@@ -11,13 +7,8 @@ use Rattle.fields.proofs.load_at.Tie as tie
 shared-slice-read-if1 : tie.Need-shared-slice-read-if1
 shared-slice-read-if1 c = search needs
 
-whole-side-requires : tie.Need-whole-side-requires
-whole-side-requires c κs = search needs
-
-whole-float-requires : tie.Need-whole-float-requires
-whole-float-requires c κs =
-    let h : natAbs (c .whole-side .result) ≤ 2 ^ 41 = omega (arith, c .whole-side .ensures .small) in
-    search wholes
+right-at-requires : tie.Need-right-at-requires
+right-at-requires c κs = search needs
 
 mul-room : tie.Need-mul-room
 mul-room c = search needs
@@ -47,10 +38,7 @@ same-length : tie.Need-same-length
 same-length c = search needs
 
 returns : tie.Need-returns
-returns c =
-    let b = c .before .whole-side in
-    let f = most-fits (b .result) (2 ^ 40) (b .ensures .small) (omega arith) in
-    search cell
+returns c = search cell
 
 same-length-2 : tie.Need-same-length-2
 same-length-2 c = search needs
@@ -64,8 +52,7 @@ load-at-spec =
     tie.close
     (tie.spec
     shared-slice-read-if1
-    whole-side-requires
-    whole-float-requires
+    right-at-requires
     mul-room
     add-room
     mul-room-2

@@ -1,4 +1,4 @@
--- `fields::whole_side` meets its contract: after i turns the sum is that of the first i cells. Assumes nothing.
+-- `sources::whole_at` meets its contract: after i turns the sum is that of the first i cells. Assumes nothing.
 use Prim.Native.Nat.{_≤_, _-_, _^_}
 use mathlib.Core.Path.{_≡_, ap}
 use native.Mathlib.Omega.{arith}
@@ -8,9 +8,9 @@ use mir.Syntax.{w32, w64}
 use mir.Val.{SFits, toZ}
 use Rattle.method.specs.Cast.{field}
 use Rattle.whole.proofs.Laws.{abs-32}
-use Rattle.fields.proofs.RightSide.{Gathering, sides}
-use Rattle.fields.proofs.whole_side.Statement.{statement}
-use Rattle.fields.proofs.whole_side.Tie as tie
+use Rattle.sources.proofs.Laws.{Gathering, sides}
+use Rattle.sources.proofs.whole_at.Statement.{statement}
+use Rattle.sources.proofs.whole_at.Tie as tie
 
 abbrev Inv-loop : tie.InvT-loop
 Inv-loop labels values c around b₀ i₀ b i = (i ≤ 6) × Gathering labels values around (toZ w64 b₀) i (toZ w64 b)
@@ -60,8 +60,8 @@ loop-again c = search sides
 returns : tie.Need-returns Inv-loop μ-loop
 returns c = search sides
 
-pub whole-side-spec : {M : Type 1} → statement M
-whole-side-spec =
+pub whole-at-spec : {M : Type 1} → statement M
+whole-at-spec =
     tie.close
     (tie.spec
     Inv-loop

@@ -2,14 +2,15 @@
 use Prim.Native.Nat.{ℕ, _+_, _*_, _^_, _≤_, _<_}
 use mathlib.Core.Path.{_≡_, refl, sym, ap, ap₂, _∙_}
 use mathlib.Core.Logic.{⊎-elim}
-use mathlib.Core.Bool.{true, false, cond}
+use mathlib.Core.Bool.{true}
 use mathlib.Core.List.{List}
 use native.Mathlib.Omega.{arith}
 use native.Mathlib.Numerals.{add-one}
 use borrow.Author.Tests.{eq-eqb, ne-eqb}
 use lib.IntN.{ℤ, natAbs}
 use lib.ListN.{length, getD}
-use mir.Syntax.{w32, w64}
+use lib.Ieee.{Float}
+use mir.Syntax.{w64}
 use mir.Val.{SFits, toZ, ofZ}
 use mir.Facts.{toZ-ofZ}
 use Rattle.laws.specs.Loops.{up}
@@ -22,8 +23,8 @@ use Rattle.laws.proofs.Zed.{abs-add}
 use Rattle.method.specs.declared.Sides.{Sides}
 use Rattle.method.specs.Cast.{labelAt, isOpening, field, level, around}
 use Rattle.grid.proofs.Steps.{steps, label-out, around-six}
-use Rattle.whole.proofs.Laws.{wholes, abs-32}
-use Rattle.fields.specs.Turns.{levelStep, Levelled, wholeSide, WholeSide}
+use Rattle.whole.proofs.Laws.{wholes}
+use Rattle.sources.specs.Sources.{levelStep, Levelled, wholeSide, WholeSide}
 
 -- ---- one cell, by its label l
 module _ (ls : List ℕ) (j l : ℕ) (e : l ≡ labelAt ls j) where
@@ -75,4 +76,8 @@ module _ {ls : List ℕ} {vs : List ℤ} {near : List ℕ} where
 pub gives-levelled : (ls : List ℕ) (vs : List ℤ) (j : ℕ) (s r : ℤ) → SFits w64 s → Levelled ls vs j (toZ w64 (ofZ w64 s)) r → Levelled ls vs j s r
 gives-levelled ls vs j s r f h = rw (← toZ-ofZ f) h
 
-pub ruleset sides = (wholes, steps, reads-level, adds-level, adds-none, gathering-none, gathering-more, gathering-end, gives-levelled)
+pub gives-float : (g : Sides) (ls : List ℕ) (vs : List ℤ) (c : ℕ) (b : ℤ) (v : Float) → SFits w64 b → WholeSide g ls vs c b → v ≡ ofℤ (toZ w64 (ofZ w64 b))
+    → v ≡ ofℤ (wholeSide g ls vs c)
+gives-float g ls vs c b v f q w = w ∙ ap ofℤ (toZ-ofZ f ∙ q .is)
+
+pub ruleset sides = (wholes, steps, reads-level, adds-level, adds-none, gathering-none, gathering-more, gathering-end, gives-levelled, gives-float)

@@ -1,4 +1,4 @@
--- `fields::level_at` meets its contract, by the label. Assumes nothing.
+-- `sources::level_at` meets its contract, by the label. Assumes nothing.
 use Prim.Native.Nat.{_+_, _≤_, _<_, _^_}
 use mathlib.Core.Path.{_≡_, ap, _∙_}
 use native.Mathlib.Omega.{arith}
@@ -10,9 +10,9 @@ use mir.Val.{SFits}
 use Rattle.laws.specs.Whole.{_+ᶻ_}
 use Rattle.method.specs.Cast.{field}
 use Rattle.whole.proofs.Laws.{abs-32}
-use Rattle.fields.proofs.RightSide.{sides}
-use Rattle.fields.proofs.level_at.Statement.{statement}
-use Rattle.fields.proofs.level_at.Tie as tie
+use Rattle.sources.proofs.Laws.{sides}
+use Rattle.sources.proofs.level_at.Statement.{statement}
+use Rattle.sources.proofs.level_at.Tie as tie
 
 label-at-requires : tie.Need-label-at-requires
 label-at-requires c κs = search sides
