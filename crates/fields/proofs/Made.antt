@@ -11,7 +11,7 @@ use lib.Ieee.{Float, nan}
 use Rattle.laws.specs.Binary64.{_⊕_, _⊖_, _⊗_, +0, ofℤ}
 use Rattle.laws.specs.Loops.{up}
 use Rattle.laws.specs.Lists.{tab}
-use Rattle.laws.proofs.Loops.{Up, up-end, ups}
+use Rattle.laws.proofs.Loops.{Up, up-end}
 use Rattle.laws.proofs.Lists.{length-tab}
 use Rattle.laws.proofs.Fill.{up-same, filled, tab-same, part-take}
 use Rattle.method.specs.declared.Sides.{Sides}
@@ -143,5 +143,3 @@ start-is g ls b s m t e h a q =
     q ∙ ap₂ (λ u v. u ++ (b ++ v)) (front ∙ ap (λ u. u ++ z-of (cells g) s) both) back
     ∙ append-assoc (zeros g ++ zeros g) (z-of (cells g) s) (b ++ drop (4 * cells g) s)
     ∙ append-assoc (zeros g) (zeros g) (z-of (cells g) s ++ (b ++ drop (4 * cells g) s))
-
-pub ruleset loops = (ups, dot-is, apply-is, aim-is, advance-is, reduce-is, load-is, start-is)

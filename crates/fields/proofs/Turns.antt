@@ -1,6 +1,6 @@
 -- The kernels at one cell, by its label. Assumes nothing.
 use Prim.Native.Nat.{ℕ, zero, suc, _+_, _-_, _*_, _<_}
-use mathlib.Core.Path.{_≡_, refl, ap, _∙_}
+use mathlib.Core.Path.{_≡_, refl, ap₂, _∙_}
 use mathlib.Core.Bool.{cond}
 use mathlib.Core.List.{List}
 use native.Mathlib.Omega.{arith}
@@ -47,10 +47,11 @@ module _ (ls : List ℕ) (c : ℕ) (h : c < length ls) where
     clears y e = rw (air-no ls c h e)
 
   -- A p, of the part that holds p
-  pub applies : (g : Sides) (r : List Float) (v : Float) → getD ls c 0 ≡ 0 → v ≡ applied g ls (take (2 * length ls - length ls) (drop (length ls) r)) c
-      → set r (4 * length ls + c) v ≡ applyTurn g ls c r
+  pub applies : (g : Sides) (r : List Float) (v : Float) → getD ls c 0 ≡ 0
+      → v ≡ applied g ls (take (1 * length ls + length ls - 1 * length ls) (drop (1 * length ls) r)) c → set r (4 * length ls + c) v ≡ applyTurn g ls c r
   applies g r v e q =
-      let n : 2 * length ls - length ls ≡ length ls = omega arith in
-      stores-as r (4 * length ls + c) v (applied g ls (take (length ls) (drop (length ls) r)) c) e (q ∙ ap (λ m. applied g ls (take m (drop (length ls) r)) c) n)
+      let n : 1 * length ls + length ls - 1 * length ls ≡ length ls = omega arith in
+      let k : 1 * length ls ≡ length ls = omega arith in
+      stores-as r (4 * length ls + c) v (applied g ls (take (length ls) (drop (length ls) r)) c) e (q ∙ ap₂ (λ m k. applied g ls (take m (drop k r)) c) n k)
 
 pub ruleset cell = (needs, first-round, later-round, sum-air, sum-other, stores, stores-as, clears, applies)

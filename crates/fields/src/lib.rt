@@ -18,11 +18,8 @@ fn dot_at(a: &[f64], b: &[f64], labels: &[u8], c: usize, sum: f64) -> f64
     requires { ⌜ (c < length (now labels)) × ((c < length (now a)) × (c < length (now b))) ⌝ }
     ensures { λ r. ⌜ r ≡ dotTurn (now (labels .entry)) (now (a .entry)) (now (b .entry)) c sum ⌝ }
 {
-    if labels[c] == 0 {
-        sum + a[c] * b[c]
-    } else {
-        sum
-    }
+    let label = labels[c];
+    if label == 0 { sum + a[c] * b[c] } else { sum }
 }
 
 // The dot product of two fields over air cells, from +0.0, ascending.
@@ -47,9 +44,10 @@ fn apply_at(room: &mut [f64], labels: &[u8], g: method::Sides, c: usize)
     ensures { λ _. ⌜ now (room .exit) ≡ applyTurn g (now (labels .entry)) c (now (room .entry)) ⌝ }
 {
     let n = labels.len();
+    let p = 1 * n;
     let t = 4 * n + c;
     if labels[c] == 0 {
-        let v = smooth::applied_at(&room[n..2 * n], labels, g, c);
+        let v = smooth::applied_at(&room[p..p + n], labels, g, c);
         room[t] = v;
     } else {
         room[t] = 0.0;

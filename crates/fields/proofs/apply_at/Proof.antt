@@ -4,6 +4,9 @@ use Rattle.fields.proofs.Turns.{cell}
 use Rattle.fields.proofs.apply_at.Statement.{statement}
 use Rattle.fields.proofs.apply_at.Tie as tie
 
+mul-p : tie.Need-mul-p
+mul-p c = search needs
+
 mul-t : tie.Need-mul-t
 mul-t c = search needs
 
@@ -13,11 +16,11 @@ add-t c = search needs
 shared-slice-read-if1 : tie.Need-shared-slice-read-if1
 shared-slice-read-if1 c = search needs
 
+add-applied-at : tie.Need-add-applied-at
+add-applied-at c = search needs
+
 mul-applied-at : tie.Need-mul-applied-at
 mul-applied-at c = search needs
-
-mul-applied-at-2 : tie.Need-mul-applied-at-2
-mul-applied-at-2 c = search needs
 
 sub-applied-at : tie.Need-sub-applied-at
 sub-applied-at c = search needs
@@ -60,11 +63,12 @@ pub apply-at-spec : {M : Type 1} → statement M
 apply-at-spec =
     tie.close
     (tie.spec
+    mul-p
     mul-t
     add-t
     shared-slice-read-if1
+    add-applied-at
     mul-applied-at
-    mul-applied-at-2
     sub-applied-at
     part-applied-at-start
     part-applied-at-end

@@ -2,9 +2,9 @@
 use Prim.Native.Nat.{_≤_, _-_}
 use lib.ListN.{length}
 use Rattle.laws.specs.Binary64.{+0}
-use Rattle.laws.proofs.Loops.{Up}
+use Rattle.laws.proofs.Loops.{Up, ups}
 use Rattle.fields.specs.Turns.{dotTurn}
-use Rattle.fields.proofs.Made.{loops}
+use Rattle.fields.proofs.Made.{dot-is}
 use Rattle.fields.proofs.dot.Statement.{statement}
 use Rattle.fields.proofs.dot.Tie as tie
 
@@ -16,22 +16,22 @@ abbrev μ-loop : tie.MeasureT-loop
 
 loop-holds : tie.Need-loop-holds Inv-loop μ-loop
 unfolding lib.Ieee.ofBits
-loop-holds c = search loops
+loop-holds c = search ups
 
 dot-at-requires : tie.Need-dot-at-requires Inv-loop μ-loop
-dot-at-requires c κs = search loops
+dot-at-requires c κs = search ups
 
 add-c : tie.Need-add-c Inv-loop μ-loop
-add-c c = search loops
+add-c c = search ups
 
 loop-less : tie.Need-loop-less Inv-loop μ-loop
-loop-less c = search loops
+loop-less c = search ups
 
 loop-again : tie.Need-loop-again Inv-loop μ-loop
-loop-again c = search loops
+loop-again c = search ups
 
 returns : tie.Need-returns Inv-loop μ-loop
-returns c = search loops
+returns c = search (ups, dot-is)
 
 pub dot-spec : {M : Type 1} → statement M
 dot-spec =

@@ -4,8 +4,8 @@ use Rattle.fields.proofs.Turns.{cell}
 use Rattle.fields.proofs.dot_at.Statement.{statement}
 use Rattle.fields.proofs.dot_at.Tie as tie
 
-shared-slice-read-if1 : tie.Need-shared-slice-read-if1
-shared-slice-read-if1 c = search needs
+shared-slice-read-label : tie.Need-shared-slice-read-label
+shared-slice-read-label c = search needs
 
 mul-result : tie.Need-mul-result
 mul-result c = search needs
@@ -29,7 +29,7 @@ pub dot-at-spec : {M : Type 1} → statement M
 dot-at-spec =
     tie.close
     (tie.spec
-    shared-slice-read-if1
+    shared-slice-read-label
     mul-result
     shared-slice-read-result
     mul-result-2

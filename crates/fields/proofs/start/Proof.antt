@@ -1,6 +1,6 @@
 -- `fields::start` meets its contract, by what the two calls ensure. Assumes nothing.
 use borrow.Author.Needs.{needs}
-use Rattle.fields.proofs.Made.{loops}
+use Rattle.fields.proofs.Made.{start-is}
 use Rattle.fields.proofs.start.Statement.{statement}
 use Rattle.fields.proofs.start.Tie as tie
 
@@ -17,7 +17,7 @@ same-length : tie.Need-same-length
 same-length c = search needs
 
 returns : tie.Need-returns
-returns c = search loops
+returns c = search (needs, start-is)
 
 pub start-spec : {M : Type 1} → statement M
 start-spec =
