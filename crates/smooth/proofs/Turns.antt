@@ -20,17 +20,22 @@ use Rattle.smooth.proofs.Sums.{value-front, airSum-front, airSum-take}
 
 -- ---- the label as the code reads it
 module _ (ls : List ℕ) (c : ℕ) (h : c < length ls) where
-  air-yes : getD ls c 0 ≡ 0 → isAir ls c ≡ true
+  pub air-yes : getD ls c 0 ≡ 0 → isAir ls c ≡ true
   unfolding isAir
   air-yes e = eq-eqb (labelAt ls c) 0 (sym (label-in ls c h) ∙ e)
 
-  air-no : (getD ls c 0 ≡ 0 → ⊥) → isAir ls c ≡ false
+  pub air-no : (getD ls c 0 ≡ 0 → ⊥) → isAir ls c ≡ false
   unfolding isAir
   air-no e = ne-eqb (labelAt ls c) 0 (λ p. e (label-in ls c h ∙ p))
 
 -- ---- A u and b - A u, from what was gathered and from the fields in the room
 pub d-is : (k d : ℕ) → k ≡ d → ofℕ k ≡ ofℕ d
 d-is k d e = ap ofℕ e
+
+pub applied-is : (g : Sides) (ls : List ℕ) (u : List Float) (c k : ℕ) (s : Float) → k ≡ degree g ls c → s ≡ airSum g ls u c
+    → ofℕ k ⊗ value u c ⊖ s ≡ applied g ls u c
+unfolding applied
+applied-is g ls u c k s ek es = simp (ek, es)
 
 pub rest-is : (g : Sides) (ls : List ℕ) (u : List Float) (c k : ℕ) (b s : Float) → k ≡ degree g ls c → s ≡ airSum g ls u c
     → b ⊖ (ofℕ k ⊗ value u c ⊖ s) ≡ b ⊖ applied g ls u c
@@ -120,4 +125,4 @@ module _ (g : Sides) (ls : List ℕ) (c : ℕ) (e : List Float) (len : length ls
       ap₂ (λ n x. set e (2 * n + c) x) len
       (ap (λ t. cond t (rest g ls (b-of (cells g) e) (u-of (cells g) e) c) +0) (sym (air-no ls c (omega arith) a)))
 
-pub ruleset turns = (needs, d-is, rest-is, relax-air, relax-other, jacobi-air, jacobi-other, residue-air, residue-other)
+pub ruleset turns = (needs, d-is, applied-is, rest-is, relax-air, relax-other, jacobi-air, jacobi-other, residue-air, residue-other)

@@ -66,6 +66,18 @@ fn gather(u: &[f64], labels: &[u8], g: method::Sides, c: usize) -> Gathered
     a
 }
 
+// A u at cell c.
+pub fn applied_at(u: &[f64], labels: &[u8], g: method::Sides, c: usize) -> f64
+    requires { ⌜ Fit g ⌝ }
+    requires { ⌜ (length (now labels) ≡ cells g) × ((c < cells g) × (cells g ≤ length (now u))) ⌝ }
+    ensures { λ r. ⌜ r ≡ applied g (now (labels .entry)) (now (u .entry)) c ⌝ }
+{
+    let a = gather(u, labels, g, c);
+    let d = a.count as f64;
+    let x = u[c];
+    d * x - a.sum
+}
+
 // b - A u at cell c, where b is the value there.
 fn rest_at(u: &[f64], labels: &[u8], g: method::Sides, c: usize, b: f64) -> Rest
     requires { ⌜ Fit g ⌝ }
@@ -204,7 +216,7 @@ pub fn residual(room: &mut [f64], labels: &[u8], g: method::Sides)
 }
 
 // The first n elements become zero.
-fn clear_front(room: &mut [f64], n: usize)
+pub fn clear_front(room: &mut [f64], n: usize)
     requires { ⌜ n ≤ length (now room) ⌝ }
     ensures { λ _. ⌜ now (room .exit) ≡ tab n (λ c. +0) ++ drop n (now (room .entry)) ⌝ }
 {

@@ -1,0 +1,3 @@
+-- Laws, each once.
+pub mod Turns
+pub mod Made

@@ -1,0 +1,50 @@
+-- `fields::apply` meets its contract: after c turns the room is c turns on. Assumes nothing.
+use Prim.Native.Nat.{_≤_, _-_}
+use mathlib.Core.Path.{_≡_}
+use lib.ListN.{length}
+use Rattle.laws.proofs.Loops.{Up, ups}
+use Rattle.fields.specs.Turns.{applyTurn}
+use Rattle.fields.proofs.Made.{apply-is}
+use Rattle.fields.proofs.apply.Statement.{statement}
+use Rattle.fields.proofs.apply.Tie as tie
+
+abbrev Inv-loop : tie.InvT-loop
+Inv-loop room₀ labels g c₀ room c = (c ≤ length labels) × (length room ≡ length room₀) × Up (applyTurn g labels) room₀ c room
+
+abbrev μ-loop : tie.MeasureT-loop
+μ-loop room₀ labels g c₀ room c = length labels - c
+
+loop-holds : tie.Need-loop-holds Inv-loop μ-loop
+loop-holds c = search ups
+
+apply-at-requires : tie.Need-apply-at-requires Inv-loop μ-loop
+apply-at-requires c κs = search ups
+
+add-c : tie.Need-add-c Inv-loop μ-loop
+add-c c = search ups
+
+loop-less : tie.Need-loop-less Inv-loop μ-loop
+loop-less c = search ups
+
+loop-again : tie.Need-loop-again Inv-loop μ-loop
+loop-again c = search ups
+
+same-length : tie.Need-same-length Inv-loop μ-loop
+same-length c = search ups
+
+returns : tie.Need-returns Inv-loop μ-loop
+returns c = search (ups, apply-is)
+
+pub apply-spec : {M : Type 1} → statement M
+apply-spec =
+    tie.close
+    (tie.spec
+    Inv-loop
+    μ-loop
+    loop-holds
+    apply-at-requires
+    add-c
+    loop-less
+    loop-again
+    same-length
+    returns)

@@ -1,0 +1,2 @@
+-- Laws, each once.
+pub mod Laws
