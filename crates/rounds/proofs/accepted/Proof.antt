@@ -1,0 +1,11 @@
+use borrow.Author.Needs.{needs}
+use Rattle.method.specs.Answers.{accepted}
+use Rattle.rounds.proofs.accepted.Statement.{statement}
+use Rattle.rounds.proofs.accepted.Tie as tie
+
+returns : tie.Need-returns
+unfolding accepted
+returns c = search needs
+
+pub accepted-spec : {M : Type 1} → statement M
+accepted-spec = tie.close (tie.spec returns)

@@ -1,0 +1,19 @@
+use Rattle.rounds.proofs.Budget.{budget}
+use borrow.Author.Needs.{needs}
+use Rattle.rounds.proofs.run.Statement.{statement}
+use Rattle.rounds.proofs.run.Tie as tie
+
+start-requires : tie.Need-start-requires
+start-requires c κs = search budget
+
+rounds-requires : tie.Need-rounds-requires
+rounds-requires c κs = search budget
+
+same-length : tie.Need-same-length
+same-length c = search needs
+
+returns : tie.Need-returns
+returns c = search budget
+
+pub run-spec : {M : Type 1} → statement M
+run-spec = tie.close (tie.spec start-requires rounds-requires same-length returns)

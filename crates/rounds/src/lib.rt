@@ -1,0 +1,153 @@
+// The rounds of conjugate gradients with the V-cycle as preconditioner (document 01, "The rounds"). The binary64 room holds
+// x | p | z r t | and the coarser levels' fields; the cycle works on the room from z on, with z r t as its u b t.
+mod scalars;
+
+ghost use mathlib.Core.Path.{_≡_};
+ghost use Prim.Native.Nat.{_*_, _≤_, _<_};
+ghost use lib.ListN.{length};
+ghost use Rattle.method.specs.Cast.{cells};
+ghost use Rattle.method.specs.Answers.{accepted as Answers·accepted, unfinished as Answers·unfinished};
+ghost use Rattle.fields.specs.Fields.{Held, x-of};
+ghost use Rattle.trial.specs.Trial.{tested};
+ghost use Rattle.rounds.specs.Rounds.{castOf, Advanced, Ready, RunOf, EndOf};
+use levels::lists::Lists;
+use levels::sides::Levels;
+use method::Answer;
+use method::Settings;
+use method::Sides;
+use method::Step;
+use scalars::scalars_of;
+use scalars::step_of;
+
+// What a cycle needs beside its rooms: where the levels and their lists stand, and how many levels are used.
+pub struct Plan {
+    pub levels: Levels,
+    pub lists: Lists,
+    pub count: usize,
+}
+
+// Answer 0.
+fn accepted(rounds: u32, worst: u32, interior: u32, depth: u32) -> Answer
+    ensures { λ r. ⌜ r ≡ Answers·accepted rounds worst interior depth ⌝ }
+{
+    Answer {
+        number: 0,
+        place: 0,
+        rounds,
+        worst,
+        interior,
+        depth,
+    }
+}
+
+// Answer 8 or 9.
+fn unfinished(number: u32, rounds: u32, interior: u32, depth: u32) -> Answer
+    ensures { λ r. ⌜ r ≡ Answers·unfinished number rounds interior depth ⌝ }
+{
+    Answer {
+        number,
+        place: 0,
+        rounds,
+        worst: 0,
+        interior,
+        depth,
+    }
+}
+
+// The test of x as it stands in the room: on its rounded ticks, not on r.
+fn test_x(
+    room: &[f64],
+    labels: &[u8],
+    values: &[i32],
+    g: Sides,
+    settings: Settings,
+) -> trial::Tested
+    requires { ⌜ Held g (now labels) (now room) × ((length (now values) ≡ cells g) × (settings .tolerance ≤ 1000000)) ⌝ }
+    ensures { λ r. ⌜ r ≡ tested (castOf g (now (labels .entry)) (now (values .entry))) settings (x-of (cells g) (now (room .entry))) ⌝ }
+{
+    let n = labels.len();
+    trial::test(g, labels, values, &room[0..n], settings)
+}
+
+// x + alpha·p, r - alpha·A p, with A p in t.
+fn move_on(room: &mut [f64], labels: &[u8], g: Sides, alpha: f64)
+    requires { ⌜ Held g (now labels) (now room) ⌝ }
+    ensures { λ _. ⌜ Advanced g (now (labels .entry)) alpha (now (room .entry)) (now (room .exit)) ⌝ }
+{
+    fields::advance(room, labels, g, alpha);
+    fields::reduce(room, labels, g, alpha);
+}
+
+// The rounds, from the room of the start: as many as the limit allows, each after a test, and a last test.
+fn rounds(
+    room: &mut [f64],
+    bytes: &[u8],
+    words: &[u32],
+    plan: Plan,
+    labels: &[u8],
+    values: &[i32],
+    settings: Settings,
+    g: Sides,
+    interior: u32,
+    depth: u32,
+) -> Answer
+    requires { ⌜ Ready g (now labels) (now values) settings plan (now bytes) (now words) (length (now room)) ⌝ }
+    ensures { λ r. ⌜ RunOf g (now (labels .entry)) (now (values .entry)) settings interior depth (now (room .entry)) r (now (room .exit)) ⌝ }
+{
+    let mut done = 0;
+    let mut rho = 0.0;
+    while done < settings.rounds {
+        match test_x(&room[..], labels, values, g, settings) {
+            trial::Tested::Passed(worst) => {
+                return accepted(done, worst, interior, depth);
+            }
+            trial::Tested::Failed => {}
+        }
+        let q = scalars_of(room, bytes, words, plan, labels, g, done, rho);
+        match step_of(q) {
+            Step::Stalled(_) => {
+                return unfinished(9, done, interior, depth);
+            }
+            Step::Go(alpha) => {
+                move_on(room, labels, g, alpha);
+            }
+        }
+        rho = q.rho;
+        done += 1;
+    }
+    match test_x(&room[..], labels, values, g, settings) {
+        trial::Tested::Passed(worst) => accepted(done, worst, interior, depth),
+        trial::Tested::Failed => unfinished(8, done, interior, depth),
+    }
+}
+
+// The rounds from x = 0 and r = b: how they end, and the x of the last test in the room.
+pub fn run(
+    room: &mut [f64],
+    bytes: &[u8],
+    words: &[u32],
+    plan: Plan,
+    labels: &[u8],
+    values: &[i32],
+    settings: Settings,
+    g: Sides,
+    interior: u32,
+    depth: u32,
+) -> Answer
+    requires { ⌜ Ready g (now labels) (now values) settings plan (now bytes) (now words) (length (now room)) ⌝ }
+    ensures { λ r. ⌜ EndOf g (now (labels .entry)) (now (values .entry)) settings interior depth r (now (room .exit)) ⌝ }
+{
+    fields::start(room, labels, values, g);
+    rounds(
+        room,
+        bytes,
+        words,
+        plan,
+        labels,
+        values,
+        settings,
+        g,
+        interior,
+        depth,
+    )
+}

@@ -1,0 +1,123 @@
+// The four scalars of a round, and the step that they allow.
+ghost use mathlib.Core.Path.{_≡_};
+ghost use Prim.Native.Nat.{_+_, _*_, _≤_};
+ghost use lib.ListN.{length, take, drop};
+ghost use Rattle.method.specs.Cast.{cells};
+ghost use Rattle.method.specs.Levels.{value};
+ghost use Rattle.method.specs.Rounds.{dot, betaOf, finite, usable, step};
+ghost use Rattle.fields.specs.Fields.{Held};
+ghost use Rattle.rounds.specs.Rounds.{below, planSides, planLabels, Prepared, Planned, Drawn, Rho, Sigma, Scaled};
+use crate::Plan;
+use method::Scalars;
+use method::Sides;
+use method::Step;
+
+// Whether a number is neither infinite nor a NaN.
+fn is_finite(x: f64) -> bool
+    ensures { λ r. ⌜ r ≡ finite x ⌝ }
+{
+    let top = 1.0 / 0.0;
+    if -top < x { x < top } else { false }
+}
+
+// Whether a number is finite and above 0.
+fn is_usable(x: f64) -> bool
+    ensures { λ r. ⌜ r ≡ usable x ⌝ }
+{
+    if is_finite(x) { 0.0 < x } else { false }
+}
+
+// Alpha, or the first scalar that stalls the round: rho and sigma must be finite and above 0, alpha finite.
+pub(crate) fn step_of(q: Scalars) -> Step
+    ensures { λ r. ⌜ r ≡ step q ⌝ }
+{
+    let rho = q.rho;
+    let sigma = q.sigma;
+    let alpha = q.alpha;
+    if is_usable(rho) {
+        if is_usable(sigma) {
+            if is_finite(alpha) {
+                return Step::Go(alpha);
+            }
+            return Step::Stalled(alpha);
+        }
+        return Step::Stalled(sigma);
+    }
+    Step::Stalled(rho)
+}
+
+// New rho over old rho; the first round has none.
+fn beta_of(done: u32, new: f64, old: f64) -> f64
+    ensures { λ r. ⌜ r ≡ betaOf done new old ⌝ }
+{
+    if done == 0 { 0.0 } else { new / old }
+}
+
+// The product of the fields at two places of the room, over air cells.
+fn inner(room: &[f64], labels: &[u8], g: Sides, a: usize, b: usize) -> f64
+    requires { ⌜ Held g (now labels) (now room) × ((a ≤ 4 * cells g) × (b ≤ 4 * cells g)) ⌝ }
+    ensures { λ r. ⌜ r ≡ dot g (now (labels .entry)) (value (take (cells g) (drop a (now (room .entry))))) (value (take (cells g) (drop b (now (room .entry))))) ⌝ }
+{
+    let n = labels.len();
+    let c = a + n;
+    let d = b + n;
+    fields::dot(&room[a..c], &room[b..d], labels, g)
+}
+
+// z = cycle(r): the cycle is lent the room from z on.
+fn precondition(room: &mut [f64], bytes: &[u8], words: &[u32], plan: Plan, n: usize)
+    requires { ⌜ Prepared plan (now bytes) (now words) n (length (now room)) ⌝ }
+    ensures { λ _. ⌜ Drawn (planSides plan) (planLabels plan (now (bytes .entry))) (below plan) n (now (room .entry)) (now (room .exit)) ⌝ }
+{
+    let l = plan.levels;
+    let s = plan.lists;
+    let count = plan.count;
+    let from = 2 * n;
+    cycle::cycle(&mut room[from..], bytes, words, l, s, count, 0);
+}
+
+// z, and rho = z·r.
+fn rho_of(room: &mut [f64], bytes: &[u8], words: &[u32], plan: Plan, labels: &[u8], g: Sides) -> f64
+    requires { ⌜ Planned plan (now bytes) (now words) g (now labels) (length (now room)) ⌝ }
+    ensures { λ r. ⌜ Rho g (now (labels .entry)) (below plan) (now (room .entry)) r (now (room .exit)) ⌝ }
+{
+    let n = labels.len();
+    precondition(room, bytes, words, plan, n);
+    inner(&room[..], labels, g, 2 * n, 3 * n)
+}
+
+// A p in t, and sigma = p·A p.
+fn sigma_of(room: &mut [f64], labels: &[u8], g: Sides) -> f64
+    requires { ⌜ Held g (now labels) (now room) ⌝ }
+    ensures { λ r. ⌜ Sigma g (now (labels .entry)) (now (room .entry)) r (now (room .exit)) ⌝ }
+{
+    fields::apply(room, labels, g);
+    let n = labels.len();
+    inner(&room[..], labels, g, n, 4 * n)
+}
+
+// A round's z, rho, beta, p, A p, sigma and alpha.
+pub(crate) fn scalars_of(
+    room: &mut [f64],
+    bytes: &[u8],
+    words: &[u32],
+    plan: Plan,
+    labels: &[u8],
+    g: Sides,
+    done: u32,
+    old: f64,
+) -> Scalars
+    requires { ⌜ Planned plan (now bytes) (now words) g (now labels) (length (now room)) ⌝ }
+    ensures { λ r. ⌜ Scaled g (now (labels .entry)) (below plan) done old (now (room .entry)) r (now (room .exit)) ⌝ }
+{
+    let rho = rho_of(room, bytes, words, plan, labels, g);
+    let beta = beta_of(done, rho, old);
+    fields::aim(room, labels, g, done, beta);
+    let sigma = sigma_of(room, labels, g);
+    Scalars {
+        rho,
+        sigma,
+        alpha: rho / sigma,
+        beta,
+    }
+}
