@@ -1,9 +1,8 @@
 -- Laws of the checks in their order, and of what the reader makes of a judgement. Assumes nothing.
 use mathlib.Core.Path.{_≡_, refl, sym, ap, ap₂, _∙_}
-use mathlib.Core.Bool.{Bool, true, false, not, cond}
+use mathlib.Core.Bool.{Bool, true, false, not}
 use mathlib.Core.List.{List, [], _∷_}
-use Prim.Native.Nat.{ℕ, zero, suc, _+_, _-_, _*_, _^_, _≤_, _<_}
-use native.Mathlib.Nat.{le-of-suc-le-suc, not-suc-le-zero}
+use Prim.Native.Nat.{ℕ, _+_, _-_, _*_, _^_, _≤_, _<_}
 use native.Mathlib.Omega.{arith}
 use borrow.Author.Needs.{needs}
 use borrow.Author.Tests.{lt-ltb, le-ltb, eq-eqb, ne-eqb, not-true, not-false}
@@ -13,45 +12,38 @@ use lib.ListN.{length, getD, take, drop, replicate, length-drop, length-replicat
 use lib.Seq.{getD-take}
 use mir.Syntax.{w64}
 use mir.Val.{Fits}
-use Rattle.laws.proofs.Lists.{getD-any}
-use Rattle.laws.specs.Loops.{up}
 use Rattle.laws.specs.Lists.{tab}
 use Rattle.laws.proofs.Lists.{getD-tab}
 use Rattle.method.specs.declared.Answer.{Answer}
 use Rattle.method.specs.declared.Sides.{Sides}
 use Rattle.method.specs.declared.Order.the-variants.{Big}
 use Rattle.method.specs.declared.Found.{Found}
-use Rattle.method.specs.declared.Found.the-variants.{Nowhere, At}
-use Rattle.method.specs.Cast.{cells, sidesFit, settingsFit, labelAt, widest, orElse, first, badLabel, badValue}
+use Rattle.method.specs.Cast.{cells, sidesFit, settingsFit, labelAt, widest, first, badLabel, badValue}
 use Rattle.method.specs.Form.{header, headerOf, labelsIn, valuesIn, castIn}
 use Rattle.method.specs.Form as form
 use Rattle.method.specs.Answers.{fault, passed, refused, verdict, refusal, done, filled}
 use Rattle.method.specs.Calls.{Reading, lineCheck, sideCheck, bodyCheck, roomCheck, contentChecks, readerChecks, notRead, isRead, readingBy, reading}
-use Rattle.session.specs.Lines.{named, HeaderOf, headerIn, wrongIn, startIn}
-use Rattle.session.specs.Body.{CellsOf, badLabelAt, valueIn, badValueAt}
+use Rattle.header.specs.Lines.{named, HeaderOf, headerIn, wrongIn, startIn}
+use Rattle.checks.specs.Faults.{badLabelAt}
+use Rattle.words.specs.Body.{valueIn, badValueIn}
+use Rattle.theory.proofs.Firsts.{first-cong}
+use Rattle.theory.proofs.Sides.{Fit, fit}
 use Rattle.session.specs.Reads.{ReadOf, asked, verdictOf, Sized, Ready, ReadyIf, JudgedOf}
-use Rattle.session.specs.Rulings.{rulingOf, rulingBy, firstOf}
-use Rattle.session.specs.declared.Ruling.{Ruling}
-use Rattle.session.specs.declared.Ruling.the-variants.{Refused as Refusedᴿ, Allowed}
-use Rattle.session.proofs.RuleLaws.{fails-at, passes-on, verdict-agree, ruling-more, ruling-last, fault-no, fault-yes}
-use Rattle.session.specs.declared.Header.{Header}
-use Rattle.session.specs.declared.HeaderRead.{HeaderRead}
-use Rattle.session.specs.declared.HeaderRead.the-variants.{Wrong, Named}
+use Rattle.checks.specs.Rulings.{rulingOf, rulingBy, firstOf}
+use Rattle.checks.specs.declared.Ruling.{Ruling}
+use Rattle.checks.specs.declared.Ruling.the-variants.{Refused as Refusedᴿ, Allowed}
+use Rattle.checks.proofs.RuleLaws.{fails-at, passes-on, verdict-agree, ruling-more, ruling-last, fault-no, fault-yes}
+use Rattle.header.specs.declared.Header.{Header}
+use Rattle.header.specs.declared.HeaderRead.{HeaderRead}
+use Rattle.header.specs.declared.HeaderRead.the-variants.{Wrong, Named}
 use Rattle.session.specs.declared.Judged.{Judged}
 use Rattle.session.specs.declared.Judged.the-variants.{Refused, Passed}
 
--- ---- two tests that agree find the same
-pub first-cong : (f g : ℕ → Bool) (n : ℕ) → ((c : ℕ) → c < n → f c ≡ g c) → first f n ≡ first g n
-unfolding first up
-first-cong f g zero h = refl
-first-cong f g (suc n) h =
-    ap₂ (λ x y. orElse x (cond y (At n) Nowhere)) (first-cong f g n (λ c l. h c (omega arith))) (h n (omega arith))
-
 -- ---- checks 3, 4, 5 of a header
 module _ (H : form.Header) (n : ℕ) (e : n ≡ cells (H .sides)) (l : n ≤ length (H .body)) where
-  label-in : (c : ℕ) → c < n → labelAt (labelsIn H) c ≡ getD (H .body) c 0
+  label-in : (c : ℕ) → c < n → labelAt (labelsIn H) c ≡ labelAt (H .body) c
   unfolding labelAt labelsIn
-  label-in c h = ap (λ k. getD (take k (H .body)) c 2) (sym e) ∙ getD-take n (H .body) c 2 h ∙ getD-any (H .body) c 2 0 (omega arith)
+  label-in c h = ap (λ k. getD (take k (H .body)) c 2) (sym e) ∙ getD-take n (H .body) c 2 h
 
   label-fault : badLabel (H .sides) (labelsIn H) ≡ first (badLabelAt (H .body)) n
   unfolding badLabel badLabelAt
@@ -61,8 +53,8 @@ module _ (H : form.Header) (n : ℕ) (e : n ≡ cells (H .sides)) (l : n ≤ len
   unfolding valuesIn valueIn
   value-in c h = ap (λ k. getD (tab k (λ c. form.valueRead (H .order) (take 4 (drop (k + 4 * c) (H .body))))) c (pos 0)) (sym e) ∙ getD-tab n _ c (pos 0) h
 
-  value-fault : badValue (H .sides) (labelsIn H) (valuesIn H) ≡ first (badValueAt (H .body) n (H .order)) n
-  unfolding badValue badValueAt
+  value-fault : badValue (H .sides) (labelsIn H) (valuesIn H) ≡ first (badValueIn (H .body) n (H .order)) n
+  unfolding badValue badValueIn
   value-fault = ap (first _) (sym e) ∙ first-cong _ _ n (λ c h. ap₂ (λ x y. ltb (widest x) (natAbs y)) (label-in c h) (value-in c h))
 
 -- ---- the content: what the code found at each check
@@ -74,13 +66,13 @@ module _ (bytes : List ℕ) (h : Header) (n : ℕ) (z : Sized bytes h n) where
   labels-of body b =
       ap (λ H. badLabel (H .sides) (labelsIn H)) (z .is) ∙ label-fault (named bytes h) n (z .cells) (omega (arith, z .long)) ∙ ap (λ l. first (badLabelAt l) n) (sym b)
 
-  values-of : (body : List ℕ) → body ≡ drop (h .start) bytes → badValue (header bytes .sides) (labelsIn (header bytes)) (valuesIn (header bytes)) ≡ first (badValueAt body n (h .order)) n
+  values-of : (body : List ℕ) → body ≡ drop (h .start) bytes → badValue (header bytes .sides) (labelsIn (header bytes)) (valuesIn (header bytes)) ≡ first (badValueIn body n (h .order)) n
   values-of body b =
       ap (λ H. badValue (H .sides) (labelsIn H) (valuesIn H)) (z .is) ∙ value-fault (named bytes h) n (z .cells) (omega (arith, z .long))
-      ∙ ap (λ l. first (badValueAt l n (h .order)) n) (sym b)
+      ∙ ap (λ l. first (badValueIn l n (h .order)) n) (sym b)
 
   pub content-ruled : (w : Bool) (body : List ℕ) (x y z : Found) (p q r i o : Ruling) → w ≡ settingsFit (h .settings) → x ≡ fault (not w) → p ≡ rulingBy 3 x
-      → body ≡ drop (h .start) bytes → y ≡ first (badLabelAt body) n → q ≡ rulingBy 4 y → z ≡ first (badValueAt body n (h .order)) n → r ≡ rulingBy 5 z
+      → body ≡ drop (h .start) bytes → y ≡ first (badLabelAt body) n → q ≡ rulingBy 4 y → z ≡ first (badValueIn body n (h .order)) n → r ≡ rulingBy 5 z
       → i ≡ firstOf q r → o ≡ firstOf p i → verdict contentChecks (asked bytes 0) ≡ rulingOf o
   unfolding contentChecks castIn
   content-ruled w body x y z p q r i o ew ex ep b ey eq ez er ei eo =
@@ -124,7 +116,7 @@ module _ (bytes : List ℕ) (room : ℕ) (h : Header) (z : HeaderOf bytes (Named
     unfolding verdictOf ReadyIf sideCheck
     sizes-1 f = record { is = past-10 ∙ fails-at _ _ (asked bytes room) 0 (fault-yes (sidesFit (header bytes .sides)) (sides-of ∙ f)); ready = tt }
 
-    module _ (t : r ≡ true) (n : ℕ) (c : CellsOf (h .sides) n) where
+    module _ (t : r ≡ true) (n : ℕ) (c : n ≡ cells (h .sides)) where
       past-1 : verdict readerChecks (asked bytes room) ≡ verdict (bodyCheck ∷ roomCheck ∷ contentChecks) (asked bytes room)
       unfolding sideCheck
       past-1 = past-10 ∙ passes-on _ _ (asked bytes room) (fault-no (sidesFit (header bytes .sides)) (sides-of ∙ t))
@@ -133,7 +125,7 @@ module _ (bytes : List ℕ) (room : ℕ) (h : Header) (z : HeaderOf bytes (Named
       left = ap (λ H. length (H .body)) named-is ∙ length-drop (h .start) bytes
 
       need : 5 * cells (header bytes .sides) ≡ 5 * n
-      need = ap (λ H. 5 * cells (H .sides)) named-is ∙ ap (λ k. 5 * k) (sym (c .is))
+      need = ap (λ H. 5 * cells (H .sides)) named-is ∙ ap (λ k. 5 * k) (sym (c))
 
       pub sizes-11 : (length bytes - h .start ≡ 5 * n → ⊥) → JudgedOf bytes room (Refused 11 0)
       unfolding verdictOf ReadyIf bodyCheck
@@ -148,23 +140,23 @@ module _ (bytes : List ℕ) (room : ℕ) (h : Header) (z : HeaderOf bytes (Named
         past-11 = past-1 ∙ passes-on _ _ (asked bytes room) (fault-no (eqb (length (header bytes .body)) (5 * cells (header bytes .sides))) (eq-eqb _ _ (left ∙ q ∙ sym need)))
 
         short : ltb (length (replicate room (pos 0))) (cells (header bytes .sides)) ≡ ltb room n
-        short = ap₂ ltb (length-replicate room (pos 0)) (ap (λ H. cells (H .sides)) named-is ∙ sym (c .is))
+        short = ap₂ ltb (length-replicate room (pos 0)) (ap (λ H. cells (H .sides)) named-is ∙ sym (c))
 
         pub sizes-2 : room < n → JudgedOf bytes room (Refused 2 0)
         unfolding verdictOf ReadyIf roomCheck fault
         sizes-2 l = record { is = past-11 ∙ fails-at _ _ (asked bytes room) 0 (ap fault (short ∙ lt-ltb room n l)); ready = tt }
 
-        pub sizes-sized : Sized bytes h n
-        sizes-sized = record {
+        pub sizes-sized : n ≤ 32768 → Sized bytes h n
+        sizes-sized few = record {
           is = named-is;
           within = start-within;
           fit = sym e ∙ t;
-          cells = c .is;
-          few = c .few;
+          cells = c;
+          few = few;
           long = length-drop (h .start) bytes ∙ q;
         }
 
-        module _ (l : n ≤ room) (j : Ruling) (k : verdict contentChecks (asked bytes 0) ≡ rulingOf j) where
+        module _ (few : n ≤ 32768) (l : n ≤ room) (j : Ruling) (k : verdict contentChecks (asked bytes 0) ≡ rulingOf j) where
           past-2 : verdict readerChecks (asked bytes room) ≡ rulingOf j
           unfolding roomCheck fault
           past-2 = past-11 ∙ passes-on _ _ (asked bytes room) (ap fault (short ∙ le-ltb room n l)) ∙ content-same bytes room ∙ k
@@ -175,14 +167,14 @@ module _ (bytes : List ℕ) (room : ℕ) (h : Header) (z : HeaderOf bytes (Named
 
           pub sizes-passed : j ≡ Allowed → JudgedOf bytes room (Passed h)
           unfolding verdictOf rulingOf ReadyIf
-          sizes-passed d = record { is = past-2 ∙ rw d; ready = record { sized = rw (c .is) at sizes-sized; roomy = rw (c .is) at l } }
+          sizes-passed d = record { is = past-2 ∙ rw d; ready = record { sized = rw c at (sizes-sized few); roomy = rw (c) at l } }
 
 pub session-10 : (bytes : List ℕ) (room : ℕ) (x : HeaderRead) (k : ℕ) → HeaderOf bytes x → x ≡ Wrong k → JudgedOf bytes room (Refused 10 k)
 unfolding readerChecks lineCheck wrongIn verdictOf ReadyIf
 session-10 bytes room x k z e = record { is = fails-at _ _ (asked bytes room) k (z .line ∙ rw e); ready = tt }
 
-pub sides-known : (s : Sides) (r : Bool) → r ≡ sidesFit s → r ≡ true → sidesFit s ≡ true
-sides-known s r e t = sym e ∙ t
+pub sides-known : (s : Sides) (r : Bool) → r ≡ sidesFit s → r ≡ true → Fit s
+sides-known s r e t = fit s (sym e ∙ t)
 
 pub header-named : (bytes : List ℕ) (x : HeaderRead) (h : Header) → HeaderOf bytes x → x ≡ Named h → HeaderOf bytes (Named h)
 header-named bytes x h z e = rw e at z
@@ -219,8 +211,8 @@ pub is-ready : (bytes : List ℕ) (room : ℕ) (j : Judged) (h : Header) → Jud
 unfolding ReadyIf
 is-ready bytes room j h z e = rw e at (z .ready)
 
-pub ready-fit : (bytes : List ℕ) (room : ℕ) (j : Judged) (h : Header) → JudgedOf bytes room j → j ≡ Passed h → sidesFit (h .sides) ≡ true
-ready-fit bytes room j h z e = is-ready bytes room j h z e .sized .fit
+pub ready-fit : (bytes : List ℕ) (room : ℕ) (j : Judged) (h : Header) → JudgedOf bytes room j → j ≡ Passed h → Fit (h .sides)
+ready-fit bytes room j h z e = fit (h .sides) (is-ready bytes room j h z e .sized .fit)
 
 pub ready-start : (bytes : List ℕ) (room : ℕ) (j : Judged) (h : Header) → JudgedOf bytes room j → j ≡ Passed h → h .start ≤ length bytes
 ready-start bytes room j h z e = is-ready bytes room j h z e .sized .within
@@ -234,15 +226,15 @@ read-refused bytes old j num place a z e f =
     reading-refused (record { bytes = bytes; values = old }) num place (same-verdict bytes old ∙ judged-refused bytes (length old) j num place z e) in
     record { answer = rw q f; sides = rw q; order = rw q; settings = rw q; values = rw q }
 
-module _ (bytes : List ℕ) (room : ℕ) (j : Judged) (h : Header) (z : JudgedOf bytes room j) (e : j ≡ Passed h) (n : ℕ) (c : CellsOf (h .sides) n) where
+module _ (bytes : List ℕ) (room : ℕ) (j : Judged) (h : Header) (z : JudgedOf bytes room j) (e : j ≡ Passed h) (n : ℕ) (c : n ≡ cells (h .sides)) where
   known : header bytes ≡ named bytes h
   known = is-ready bytes room j h z e .sized .is
 
   long : length (drop (h .start) bytes) ≡ 5 * n
-  long = is-ready bytes room j h z e .sized .long ∙ ap (λ k. 5 * k) (sym (c .is))
+  long = is-ready bytes room j h z e .sized .long ∙ ap (λ k. 5 * k) (sym (c))
 
   pub store-roomy : n ≤ room
-  store-roomy = rw (c .is) (is-ready bytes room j h z e .roomy)
+  store-roomy = rw (c) (is-ready bytes room j h z e .roomy)
 
   pub store-long : (body : List ℕ) → body ≡ drop (h .start) bytes → length body ≡ 5 * n
   store-long body b = ap length b ∙ long
@@ -256,7 +248,7 @@ module _ (bytes : List ℕ) (room : ℕ) (j : Judged) (h : Header) (z : JudgedOf
   pub labels-passed : take (h .start + n - h .start) (drop (h .start) bytes) ≡ reading (asked bytes room) .labels
   unfolding isRead labelsIn
   labels-passed =
-      let m : h .start + n - h .start ≡ cells (h .sides) = omega (arith, c .is) in
+      let m : h .start + n - h .start ≡ cells (h .sides) = omega (arith, c) in
       ap (λ k. take k (drop (h .start) bytes)) m ∙ sym (ap labelsIn known)
       ∙ sym (ap (λ r. r .labels) (reading-passed (asked bytes room) (judged-passed bytes room j h z e)))
 
@@ -265,7 +257,7 @@ unfolding notRead headerOf
 labels-refused bytes room j num place z e = sym (ap (λ r. r .labels) (reading-refused (asked bytes room) num place (judged-refused bytes room j num place z e)))
 
 pub read-passed : (bytes : List ℕ) (old new : List ℤ) (j : Judged) (h : Header) (n : ℕ) (body : List ℕ) (a : Answer) → JudgedOf bytes (length old) j → j ≡ Passed h
-    → CellsOf (h .sides) n → body ≡ drop (h .start) bytes → new ≡ filled n (tab n (valueIn body n (h .order))) old → a ≡ refusal 0 0
+    → n ≡ cells (h .sides) → body ≡ drop (h .start) bytes → new ≡ filled n (tab n (valueIn body n (h .order))) old → a ≡ refusal 0 0
     → ReadOf bytes old (record { answer = a; sides = h .sides; order = h .order; settings = h .settings }) new
 unfolding isRead done valuesIn valueIn
 read-passed bytes old new j h n body a z e c b f g =
@@ -281,6 +273,6 @@ read-passed bytes old new j h n body a z e c b f g =
     }
   where
     stored-as : filled n (tab n (valueIn body n (h .order))) old ≡ filled (cells (h .sides)) (valuesIn (named bytes h)) old
-    stored-as = ap₂ (λ k l. filled k (tab k (λ i. form.valueRead (h .order) (take 4 (drop (k + 4 * i) l)))) old) (c .is) b
+    stored-as = ap₂ (λ k l. filled k (tab k (λ i. form.valueRead (h .order) (take 4 (drop (k + 4 * i) l)))) old) (c) b
 
 pub ruleset readers = (needs, ready-fit, ready-start, store-roomy, store-long, read-refused, read-passed, end-fits, end-within, labels-passed, labels-refused)

@@ -9,8 +9,8 @@ use Rattle.method.specs.Cast.{cells, sidesFit}
 use Rattle.method.specs.Form.{header}
 use Rattle.method.specs.Answers.{Verdict, passed, refused, verdict}
 use Rattle.method.specs.Calls.{Reading, readerChecks, reading}
-use Rattle.session.specs.Lines.{named}
-use Rattle.session.specs.declared.Header.{Header}
+use Rattle.header.specs.Lines.{named}
+use Rattle.header.specs.declared.Header.{Header}
 use Rattle.session.specs.declared.Judged.{Judged}
 use Rattle.session.specs.declared.Judged.the-variants.{Refused, Passed}
 use Rattle.session.specs.declared.Session.{Session}

@@ -2,24 +2,24 @@
 ghost use mathlib.Core.Path.{_≡_};
 ghost use Rattle.method.specs.Answers.{verdict};
 ghost use Rattle.method.specs.Calls.{contentChecks};
-ghost use Rattle.session.specs.Lines.{HeaderOf};
+ghost use Rattle.header.specs.Lines.{HeaderOf};
 ghost use Rattle.session.specs.Reads.{JudgedOf, Sized, asked};
-ghost use Rattle.session.specs.Rulings.{rulingOf};
-ghost use Rattle.session.specs.declared.HeaderRead.the-variants.{Named};
-use crate::Header;
-use crate::HeaderRead;
+ghost use Rattle.checks.specs.Rulings.{rulingOf};
+ghost use Rattle.header.specs.declared.HeaderRead.the-variants.{Named};
 use crate::Judged;
-use crate::Ruling;
-use crate::checks::bad_label;
-use crate::checks::cells_of;
-use crate::checks::settings_fit;
-use crate::checks::sides_fit;
-use crate::line::rest;
-use crate::lines::header;
-use crate::rule::earlier;
-use crate::rule::fault_unless;
-use crate::rule::ruled;
-use crate::value::bad_value;
+use checks::Ruling;
+use checks::cast::bad_label;
+use checks::cast::settings_fit;
+use checks::cast::sides_fit;
+use checks::rule::earlier;
+use checks::rule::fault_unless;
+use checks::rule::ruled;
+use grid::place::cell_count;
+use header::Header;
+use header::HeaderRead;
+use header::line::rest;
+use header::read_header;
+use words::bad_value;
 
 // Checks 3, 4 and 5, of a body of n cells.
 fn judge_content(bytes: &[u8], n: usize, h: Header) -> Ruling
@@ -45,7 +45,7 @@ fn judge_sizes(bytes: &[u8], room: usize, h: Header) -> Judged
     if !sides_fit(sides) {
         return Judged::Refused(1, 0);
     }
-    let n = cells_of(sides);
+    let n = cell_count(sides);
     let start = h.start;
     let left = bytes.len() - start;
     if left != 5 * n {
@@ -64,7 +64,7 @@ fn judge_sizes(bytes: &[u8], room: usize, h: Header) -> Judged
 pub(crate) fn judge_session(bytes: &[u8], room: usize) -> Judged
     ensures { λ r. ⌜ JudgedOf (now (bytes .entry)) room r ⌝ }
 {
-    match header(bytes) {
+    match read_header(bytes) {
         HeaderRead::Wrong(line) => Judged::Refused(10, line),
         HeaderRead::Named(h) => judge_sizes(bytes, room, h),
     }

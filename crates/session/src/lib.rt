@@ -1,12 +1,5 @@
 // The reader and the writer of a session (document 01, "The session form").
-mod checks;
-mod decimal;
 mod judge;
-mod line;
-mod lines;
-mod puts;
-mod rule;
-mod value;
 mod writer;
 
 ghost use mathlib.Core.Path.{_≡_};
@@ -14,42 +7,18 @@ ghost use Rattle.method.specs.Answers.{refusal as Answers·refusal};
 ghost use Rattle.method.specs.Calls.{reading};
 ghost use Rattle.session.specs.Reads.{ReadOf, asked};
 ghost use Rattle.session.specs.Writes.{WriteOf};
-use checks::cells_of;
+use checks::Ruling;
+use grid::place::cell_count;
+use header::Header;
+use header::line::rest;
 use judge::judge_session;
-use line::rest;
 use method::Answer;
 use method::Order;
 use method::Settings;
 use method::Sides;
 use puts::put_session;
-use value::store_values;
+use words::store_values;
 use writer::judge_cast;
-
-// One line, read: not of the form, or its value and how many bytes it took.
-enum LineRead {
-    NotOfForm,
-    Value(u32, usize),
-}
-
-// Three lines of numbers, read: the number of the first that is not of the form, or the values and how many bytes they took.
-enum ThreeRead {
-    Wrong(u32),
-    Values(u32, u32, u32, usize),
-}
-
-// What the seven lines name, and where the body starts.
-struct Header {
-    sides: Sides,
-    order: Order,
-    settings: Settings,
-    start: usize,
-}
-
-// The seven lines, read: the number of the first that is not of the form, or what they name.
-enum HeaderRead {
-    Wrong(u32),
-    Named(Header),
-}
 
 // A session, judged: number and place of the first check that fails, or what the header names.
 enum Judged {
@@ -63,12 +32,6 @@ pub struct Session {
     pub sides: Sides,
     pub order: Order,
     pub settings: Settings,
-}
-
-// What checks say: number and place of the first that fails, or nothing against it.
-enum Ruling {
-    Refused(u32, u32),
-    Allowed,
 }
 
 // What the writer hands back.
@@ -118,7 +81,7 @@ pub fn read(bytes: &[u8], values: &mut [i32]) -> Session
             let order = h.order;
             let settings = h.settings;
             let start = h.start;
-            let n = cells_of(sides);
+            let n = cell_count(sides);
             let body = rest(bytes, start);
             store_values(body, n, order, values);
             let answer = refusal(0, 0);
@@ -141,7 +104,7 @@ pub fn labels(bytes: &[u8], room: usize) -> &[u8]
         Judged::Passed(h) => {
             let sides = h.sides;
             let start = h.start;
-            let end = start + cells_of(sides);
+            let end = start + cell_count(sides);
             &bytes[start..end]
         }
     }

@@ -15,8 +15,8 @@ slice-aggregate-result c = search readers
 enum-known-h : tie.Need-enum-known-h
 enum-known-h c = search readers
 
-cells-of-requires : tie.Need-cells-of-requires
-cells-of-requires c κs = search readers
+cell-count-requires : tie.Need-cell-count-requires
+cell-count-requires c κs = search readers
 
 add-end : tie.Need-add-end
 add-end c = search readers
@@ -44,7 +44,7 @@ labels-spec =
     enum-told
     slice-aggregate-result
     enum-known-h
-    cells-of-requires
+    cell-count-requires
     add-end
     sub-result
     part-result-start

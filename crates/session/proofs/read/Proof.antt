@@ -15,8 +15,8 @@ refusal-requires c κs = search readers
 enum-known-h : tie.Need-enum-known-h
 enum-known-h c = search readers
 
-cells-of-requires : tie.Need-cells-of-requires
-cells-of-requires c κs = search readers
+cell-count-requires : tie.Need-cell-count-requires
+cell-count-requires c κs = search readers
 
 rest-requires : tie.Need-rest-requires
 rest-requires c κs = search readers
@@ -44,7 +44,7 @@ read-spec =
     enum-known-number
     refusal-requires
     enum-known-h
-    cells-of-requires
+    cell-count-requires
     rest-requires
     store-values-requires
     refusal-requires-2

@@ -9,8 +9,8 @@ sides-fit-requires c κs = search sized
 returns : tie.Need-returns
 returns c = search sized
 
-cells-of-requires : tie.Need-cells-of-requires
-cells-of-requires c κs = search sized
+cell-count-requires : tie.Need-cell-count-requires
+cell-count-requires c κs = search sized
 
 sub-left : tie.Need-sub-left
 sub-left c = search sized
@@ -45,7 +45,7 @@ judge-sizes-spec =
     (tie.spec
     sides-fit-requires
     returns
-    cells-of-requires
+    cell-count-requires
     sub-left
     mul-if2
     returns-2

@@ -1,0 +1,3 @@
+-- Laws that the proofs of several functions cite.
+pub mod LineLaws
+pub mod HeaderLaws
