@@ -3,10 +3,11 @@ use mathlib.Core.Path.{_≡_, refl, sym, ap, ap₂, _∙_}
 use mathlib.Core.Bool.{Bool, true, false, not}
 use mathlib.Core.List.{List, [], _∷_}
 use Prim.Native.Nat.{ℕ}
+use native.Mathlib.Omega.{arith}
 use borrow.Author.Needs.{needs}
 use Rattle.method.specs.declared.Found.{Found}
 use Rattle.method.specs.declared.Found.the-variants.{Nowhere, At}
-use Rattle.method.specs.Answers.{Check, fault, Verdict, refused, verdict}
+use Rattle.method.specs.Answers.{Check, fault, Verdict, passed, refused, verdict}
 use Rattle.checks.specs.Rulings.{rulingOf, rulingBy, firstOf}
 use Rattle.checks.specs.declared.Ruling.{Ruling}
 use Rattle.checks.specs.declared.Ruling.the-variants.{Refused, Allowed}
@@ -30,6 +31,31 @@ pub last-ruling : (r : Ruling) → firstOf r Allowed ≡ r
 unfolding firstOf
 last-ruling (Refused k p) = refl
 last-ruling Allowed = refl
+
+-- a verdict as a ruling
+abbrev pub rulingIn : Verdict → Ruling
+rulingIn passed = Allowed
+rulingIn (refused k p) = Refused k p
+
+pub ruling-in : (v : Verdict) → v ≡ rulingOf (rulingIn v)
+unfolding rulingOf
+ruling-in passed = refl
+ruling-in (refused k p) = refl
+
+-- nothing is against it: neither the first nor the second
+abbrev allowing : Ruling → ℕ
+allowing (Refused k p) = 0
+allowing Allowed = 1
+
+pub both-allowed : (a b : Ruling) → firstOf a b ≡ Allowed → (a ≡ Allowed) × (b ≡ Allowed)
+unfolding firstOf
+both-allowed (Refused k p) b e = absurd (omega (arith, ap allowing e))
+both-allowed Allowed b e = (refl, e)
+
+pub ruled-none : (k : ℕ) (f : Found) → rulingBy k f ≡ Allowed → f ≡ Nowhere
+unfolding rulingBy
+ruled-none k (At p) e = absurd (omega (arith, ap allowing e))
+ruled-none k Nowhere e = refl
 
 module _ {A : Type 0} where
   verdict-cons : (c : Check A) (cs : List (Check A)) (a : A) → verdict (c ∷ cs) a ≡ after (c .number) (c .fails a) (verdict cs a)

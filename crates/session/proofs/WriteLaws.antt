@@ -24,7 +24,7 @@ use Rattle.puts.specs.Lengths.{HeaderLength}
 use Rattle.session.specs.Writes.{offered, WriteOf, RoomIf, RuledOf}
 use Rattle.checks.specs.declared.Ruling.{Ruling}
 use Rattle.checks.specs.declared.Ruling.the-variants.{Refused, Allowed}
-use Rattle.session.proofs.JudgeLaws.{sides-known}
+use Rattle.theory.proofs.Sides.{Fit, fit}
 use Rattle.checks.proofs.RuleLaws.{fails-at, passes-on, verdict-agree, ruling-none, last-ruling, fault-no, fault-yes}
 use Rattle.checks.proofs.CheckLaws.{cells-ruled}
 use Rattle.checks.specs.Rulings.{rulingOf}
@@ -93,6 +93,9 @@ module _ (s : Sides) (o : Order) (t : Settings) (ls : List ℕ) (vs : List ℤ) 
               is = past-2 u ∙ cells-ruled (λ w. w .cast) [] lent n (c) Allowed (ruling-none lent) ∙ ap rulingOf (last-ruling (cellRuling ls vs n) ∙ sym e);
               roomy = room-if r u;
             }
+
+pub sides-known : (s : Sides) (r : Bool) → r ≡ sidesFit s → r ≡ true → Fit s
+sides-known s r e t = fit s (sym e ∙ t)
 
 pub cells-long : (n m : ℕ) → m ≡ n → n ≤ m
 cells-long n m e = omega arith

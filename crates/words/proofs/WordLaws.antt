@@ -1,7 +1,7 @@
 -- Laws of words, signed numbers, the bytes of a value, and values stored one a turn. Assumes nothing.
 use mathlib.Core.Path.{_≡_, refl, sym, ap, ap₂, _∙_}
 use mathlib.Core.Bool.{Bool, true, false, cond, true≢false}
-use mathlib.Core.List.{List, [], _∷_, _++_}
+use mathlib.Core.List.{List, [], _∷_, _++_, reverse}
 use Prim.Native.Nat.{ℕ, zero, suc, _+_, _-_, _*_, _≤_, _<_}
 use native.Mathlib.Numerals.{add-one}
 use native.Mathlib.Omega.{arith}
@@ -23,7 +23,7 @@ use Rattle.method.specs.declared.Order.the-variants.{Big, Little}
 use Rattle.method.specs.Cast.{labelAt, widest}
 use Rattle.method.specs.Answers.{filled}
 use Rattle.method.specs.Form.{inOrder, mostFirst, twosComplement, wordOf, valueRead}
-use Rattle.words.specs.Body.{valueIn, badValueIn}
+use Rattle.words.specs.Body.{isBig, valueIn, badValueIn}
 
 -- ---- two's complement
 low : (w : ℕ) → w < 2147483648 → twosComplement w ≡ pos w
@@ -116,34 +116,47 @@ four l at h =
     rw (drop-cons l at 0 (omega arith), drop-cons l (suc at) 0 (omega arith), drop-cons l (suc (suc at)) 0 (omega arith), drop-cons l (suc (suc (suc at))) 0 (omega arith))
     (ap₂ (λ x y. getD l at 0 ∷ getD l x 0 ∷ y) (omega arith) (ap₂ (λ x y. getD l x 0 ∷ getD l y 0 ∷ []) (omega arith) (omega arith)))
 
-pub big-word : (l : List ℕ) (at r : ℕ) (o : Order) → at + 4 ≤ length l → o ≡ Big
-    → r ≡ mostFirst 0 (getD l at 0 ∷ getD l (at + 1) 0 ∷ getD l (at + 2) 0 ∷ getD l (at + 3) 0 ∷ [])
-    → r ≡ mostFirst 0 (inOrder o (take 4 (drop at l)))
-unfolding inOrder
-big-word l at r o h e q = q ∙ rw (e, four l at h)
+pub big-is : (o : Order) → o ≡ Big → true ≡ isBig o
+unfolding isBig
+big-is o e = rw e
 
-pub little-word : (l : List ℕ) (at r : ℕ) (o : Order) → at + 4 ≤ length l → o ≡ Little
-    → r ≡ mostFirst 0 (getD l (at + 3) 0 ∷ getD l (at + 2) 0 ∷ getD l (at + 1) 0 ∷ getD l at 0 ∷ [])
-    → r ≡ mostFirst 0 (inOrder o (take 4 (drop at l)))
-unfolding inOrder
-little-word l at r o h e q = q ∙ rw (e, four l at h)
+pub big-not : (o : Order) → o ≡ Little → false ≡ isBig o
+unfolding isBig
+big-not o e = rw e
+
+as-big : (l : List ℕ) (o : Order) → isBig o ≡ true → inOrder o l ≡ l
+unfolding isBig inOrder
+as-big l Big e = refl
+as-big l Little e = absurd (true≢false (sym e))
+
+as-little : (l : List ℕ) (o : Order) → isBig o ≡ false → inOrder o l ≡ reverse l
+unfolding isBig inOrder
+as-little l Big e = absurd (true≢false e)
+as-little l Little e = refl
+
+module _ (l : List ℕ) (at r : ℕ) (o : Order) (b : Bool) (h : at + 4 ≤ length l) (e : b ≡ isBig o) where
+  pub big-word : b ≡ true → r ≡ mostFirst 0 (getD l at 0 ∷ getD l (at + 1) 0 ∷ getD l (at + 2) 0 ∷ getD l (at + 3) 0 ∷ []) → r ≡ mostFirst 0 (inOrder o (take 4 (drop at l)))
+  big-word t q = q ∙ ap (mostFirst 0) (sym (as-big (take 4 (drop at l)) o (sym e ∙ t) ∙ four l at h))
+
+  pub little-word : b ≡ false → r ≡ mostFirst 0 (getD l (at + 3) 0 ∷ getD l (at + 2) 0 ∷ getD l (at + 1) 0 ∷ getD l at 0 ∷ []) → r ≡ mostFirst 0 (inOrder o (take 4 (drop at l)))
+  little-word t q = q ∙ ap (mostFirst 0) (sym (as-little (take 4 (drop at l)) o (sym e ∙ t) ∙ ap reverse (four l at h)))
 
 -- ---- cells of a body
 pub value-of-cell : (body : List ℕ) (n c w : ℕ) (o : Order) (v : ℤ) → w ≡ mostFirst 0 (inOrder o (take 4 (drop (n + 4 * c) body))) → v ≡ twosComplement w → v ≡ valueIn body n o c
 unfolding valueIn valueRead
 value-of-cell body n c w o v e q = q ∙ ap twosComplement e
 
-pub bad-of-cell : (body : List ℕ) (n c : ℕ) (o : Order) (v : ℤ) (r : Bool) → c < n → length body ≡ 5 * n → SFits w32 v → v ≡ valueIn body n o c
+pub bad-of-cell : (body : List ℕ) (n c : ℕ) (o : Order) (v : ℤ) (r : Bool) → c < n → 5 * n ≤ length body → SFits w32 v → v ≡ valueIn body n o c
     → r ≡ ltb (widest (getD body c 0)) (natAbs (toZ w32 (ofZ w32 v))) → r ≡ badValueIn body n o c
 unfolding badValueIn labelAt
 bad-of-cell body n c o v r h l f e q =
     let g : getD body c 0 ≡ getD body c 2 = getD-any body c 0 2 (omega arith) in
     q ∙ ap₂ (λ x y. ltb (widest x) (natAbs y)) g (toZ-ofZ f ∙ e)
 
-pub in-body : (n c m : ℕ) → c < n → m ≡ 5 * n → c < m
+pub in-body : (n c m : ℕ) → c < n → 5 * n ≤ m → c < m
 in-body n c m h e = omega arith
 
-pub four-in-body : (n c m : ℕ) → c < n → m ≡ 5 * n → n + 4 * c + 4 ≤ m
+pub four-in-body : (n c m : ℕ) → c < n → 5 * n ≤ m → n + 4 * c + 4 ≤ m
 four-in-body n c m h e = omega arith
 
 -- ---- a list filled from the front, one store a turn
@@ -174,4 +187,4 @@ room-left c n m k a b e = omega arith
 
 pub ruleset stores = (needs, stored-none, stored-more, stored-all, room-left, length-set)
 
-pub ruleset words = (needs, as-read, big-word, little-word, value-of-cell, bad-of-cell, in-body, four-in-body)
+pub ruleset words = (needs, as-read, big-is, big-not, big-word, little-word, value-of-cell, bad-of-cell, in-body, four-in-body)

@@ -1,13 +1,18 @@
 -- A body of n cells: n label bytes, then n values of four bytes.
-use mathlib.Core.Bool.{Bool}
+use mathlib.Core.Bool.{Bool, true, false}
 use mathlib.Core.List.{List}
 use Prim.Native.Nat.{ℕ, _+_, _*_}
 use lib.Dec.{ltb}
 use lib.ListN.{take, drop}
 use lib.IntN.{ℤ, natAbs}
 use Rattle.method.specs.declared.Order.{Order}
+use Rattle.method.specs.declared.Order.the-variants.{Big, Little}
 use Rattle.method.specs.Cast.{labelAt, widest}
 use Rattle.method.specs.Form.{valueRead}
+
+unfoldable pub isBig : Order → Bool
+isBig Big = true
+isBig Little = false
 
 -- the value of cell c of a body of n cells
 unfoldable pub valueIn : List ℕ → ℕ → Order → ℕ → ℤ

@@ -7,7 +7,7 @@ ghost use Rattle.method.specs.Answers.{filled};
 ghost use lib.ListN.{length, take, drop};
 ghost use Rattle.method.specs.Cast.{first};
 ghost use Rattle.method.specs.Form.{inOrder, mostFirst, twosComplement, wordOf};
-ghost use Rattle.words.specs.Body.{badValueIn, valueIn};
+ghost use Rattle.words.specs.Body.{badValueIn, isBig, valueIn};
 use checks::cast::out_of_range;
 use method::Found;
 use method::Order;
@@ -26,6 +26,16 @@ fn word(a: u8, b: u8, c: u8, d: u8) -> u32
     256 * (256 * (256 * wide(a) + wide(b)) + wide(c)) + wide(d)
 }
 
+// Whether the most significant byte comes first.
+fn is_big(order: Order) -> bool
+    ensures { λ r. ⌜ r ≡ isBig order ⌝ }
+{
+    match order {
+        Order::Big => true,
+        Order::Little => false,
+    }
+}
+
 // The word at a place, in the order that the session names.
 fn word_at(bytes: &[u8], at: usize, order: Order) -> u32
     requires { ⌜ at + 4 ≤ length (now bytes) ⌝ }
@@ -35,9 +45,11 @@ fn word_at(bytes: &[u8], at: usize, order: Order) -> u32
     let b = bytes[at + 1];
     let c = bytes[at + 2];
     let d = bytes[at + 3];
-    match order {
-        Order::Big => word(a, b, c, d),
-        Order::Little => word(d, c, b, a),
+    let big = is_big(order);
+    if big {
+        word(a, b, c, d)
+    } else {
+        word(d, c, b, a)
     }
 }
 
@@ -65,7 +77,7 @@ pub fn word_of(v: i32) -> u32
 
 // The value of cell c of a body of n cells.
 fn value_at(body: &[u8], n: usize, order: Order, c: usize) -> i32
-    requires { ⌜ (c < n) × (length (now body) ≡ 5 * n) ⌝ }
+    requires { ⌜ (c < n) × (5 * n ≤ length (now body)) ⌝ }
     ensures { λ r. ⌜ r ≡ valueIn (now (body .entry)) n order c ⌝ }
 {
     let w = word_at(body, n + 4 * c, order);
@@ -74,7 +86,7 @@ fn value_at(body: &[u8], n: usize, order: Order, c: usize) -> i32
 
 // Whether the value of cell c of a body of n cells is out of its label's range.
 fn bad_value_at(body: &[u8], n: usize, order: Order, c: usize) -> bool
-    requires { ⌜ (c < n) × (length (now body) ≡ 5 * n) ⌝ }
+    requires { ⌜ (c < n) × (5 * n ≤ length (now body)) ⌝ }
     ensures { λ r. ⌜ r ≡ badValueIn (now (body .entry)) n order c ⌝ }
 {
     let label = body[c];
@@ -84,7 +96,7 @@ fn bad_value_at(body: &[u8], n: usize, order: Order, c: usize) -> bool
 
 // The first cell of a body of n cells whose value is out of its label's range.
 pub fn bad_value(body: &[u8], n: usize, order: Order) -> Found
-    requires { ⌜ (n ≤ 32768) × (length (now body) ≡ 5 * n) ⌝ }
+    requires { ⌜ (n ≤ 32768) × (5 * n ≤ length (now body)) ⌝ }
     ensures { λ r. ⌜ r ≡ first (badValueIn (now (body .entry)) n order) n ⌝ }
 {
     let mut c = 0;
@@ -99,7 +111,7 @@ pub fn bad_value(body: &[u8], n: usize, order: Order) -> Found
 
 // All values of a body of n cells, stored.
 pub fn store_values(body: &[u8], n: usize, order: Order, values: &mut [i32])
-    requires { ⌜ (n ≤ length (now values)) × (length (now body) ≡ 5 * n) ⌝ }
+    requires { ⌜ (n ≤ length (now values)) × (5 * n ≤ length (now body)) ⌝ }
     ensures { λ _. ⌜ now (values .exit) ≡ filled n (tab n (valueIn (now (body .entry)) n order)) (now (values .entry)) ⌝ }
 {
     let mut c = 0;

@@ -24,14 +24,11 @@ add-d c = search words
 shared-slice-read-d : tie.Need-shared-slice-read-d
 shared-slice-read-d c = search words
 
-enum-told : tie.Need-enum-told
-enum-told c = search words
+is-big-requires : tie.Need-is-big-requires
+is-big-requires c κs = search words
 
 word-requires : tie.Need-word-requires
 word-requires c κs = search words
-
-enum-told-2 : tie.Need-enum-told-2
-enum-told-2 c = search words
 
 word-requires-2 : tie.Need-word-requires-2
 word-requires-2 c κs = search words
@@ -53,9 +50,8 @@ word-at-spec =
     shared-slice-read-c
     add-d
     shared-slice-read-d
-    enum-told
+    is-big-requires
     word-requires
-    enum-told-2
     word-requires-2
     returns
     returns-2)
