@@ -1,19 +1,27 @@
 -- What the reader promises, and what its judgement means.
 use mathlib.Core.Path.{_≡_}
-use mathlib.Core.Bool.{true}
+use mathlib.Core.Bool.{true, not}
+use lib.Dec.{eqb}
 use mathlib.Core.List.{List}
 use Prim.Native.Nat.{ℕ, _*_, _≤_}
 use lib.ListN.{length, drop, replicate}
 use lib.IntN.{ℤ, pos}
 use Rattle.method.specs.Cast.{cells, sidesFit}
-use Rattle.method.specs.Form.{header}
-use Rattle.method.specs.Answers.{Verdict, passed, refused, verdict}
+use Rattle.method.specs.declared.Sides.{Sides}
+use Rattle.method.specs.declared.Found.the-variants.{Nowhere}
+use Rattle.method.specs.declared.Order.the-variants.{Big}
+use Rattle.theory.proofs.Sides.{Fit}
+use Rattle.method.specs.Form.{header, badLine}
+use Rattle.method.specs.Answers.{Verdict, passed, refused, verdict, fault, refusal, done}
 use Rattle.method.specs.Calls.{Reading, readerChecks, reading}
-use Rattle.session.specs.Lines.{named}
-use Rattle.session.specs.declared.Header.{Header}
+use Rattle.checks.specs.Rulings.{rulingBy, firstOf}
+use Rattle.checks.specs.declared.Ruling.{Ruling}
+use Rattle.header.specs.Lines.{named}
+use Rattle.header.specs.declared.Header.{Header}
 use Rattle.session.specs.declared.Judged.{Judged}
 use Rattle.session.specs.declared.Judged.the-variants.{Refused, Passed}
 use Rattle.session.specs.declared.Session.{Session}
+use Rattle.session.specs.declared.Taken.{Taken}
 
 -- THE PROMISE of `read`: what comes back, and what the lent values hold, are those of method's `reading`.
 pub record ReadOf (bytes : List ℕ) (old : List ℤ) (r : Session) (new : List ℤ) : Type 0 where
@@ -41,6 +49,15 @@ pub record Sized (bytes : List ℕ) (h : Header) (n : ℕ) : Type 0 where
   pub few : n ≤ 32768
   pub long : length (drop (h .start) bytes) ≡ 5 * n
 
+-- a header of a session whose sides and length are right
+pub record Bodied (bytes : List ℕ) (h : Header) : Type 0 where
+  pub line : badLine bytes ≡ Nowhere
+  pub sized : Sized bytes h (cells (h .sides))
+
+-- checks 1 and 11, of the sides and how many bytes the body has
+unfoldable pub sizeRuling : Sides → ℕ → Ruling
+sizeRuling s left = firstOf (rulingBy 1 (fault (not (sidesFit s)))) (rulingBy 11 (fault (not (eqb left (5 * cells s)))))
+
 pub record Ready (bytes : List ℕ) (room : ℕ) (h : Header) : Type 0 where
   pub sized : Sized bytes h (cells (h .sides))
   pub roomy : cells (h .sides) ≤ room
@@ -52,3 +69,20 @@ ReadyIf bytes room (Passed h) = Ready bytes room h
 pub record JudgedOf (bytes : List ℕ) (room : ℕ) (r : Judged) : Type 0 where
   pub is : verdict readerChecks (asked bytes room) ≡ verdictOf r
   pub ready : ReadyIf bytes room r
+
+-- ---- inside: what is taken of it
+unfoldable pub FitIf : Judged → Type 0
+FitIf (Refused num place) = Unit {0}
+FitIf (Passed h) = Fit (h .sides)
+
+unfoldable pub takenOf : Judged → Taken
+takenOf (Refused num place) = record {
+  session = record { answer = refusal num place; sides = record { nx = 0; ny = 0; nz = 0 }; order = Big; settings = record { tolerance = 0; levels = 0; rounds = 0 } };
+  start = 0;
+  count = 0;
+}
+takenOf (Passed h) = record {
+  session = record { answer = done; sides = h .sides; order = h .order; settings = h .settings };
+  start = h .start;
+  count = cells (h .sides);
+}

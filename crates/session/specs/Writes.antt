@@ -1,20 +1,19 @@
 -- What the writer promises, and what its judgement means.
 use mathlib.Core.Path.{_≡_}
 use mathlib.Core.List.{List}
-use Prim.Native.Nat.{ℕ, _+_, _≤_}
+use Prim.Native.Nat.{ℕ, _≤_}
 use lib.ListN.{length, replicate}
 use lib.IntN.{ℤ}
-use Rattle.laws.specs.Text.{text}
 use Rattle.method.specs.declared.Sides.{Sides}
 use Rattle.method.specs.declared.Order.{Order}
 use Rattle.method.specs.declared.Settings.{Settings}
-use Rattle.method.specs.Form.{decimal, line, orderWord, headerWritten, written}
+use Rattle.method.specs.Form.{written}
 use Rattle.method.specs.Answers.{verdict}
 use Rattle.method.specs.Calls.{Writing, writerChecks, writing}
-use Rattle.session.specs.Rulings.{rulingOf}
+use Rattle.checks.specs.Rulings.{rulingOf}
 use Rattle.session.specs.declared.Written.{Written}
-use Rattle.session.specs.declared.Ruling.{Ruling}
-use Rattle.session.specs.declared.Ruling.the-variants.{Refused, Allowed}
+use Rattle.checks.specs.declared.Ruling.{Ruling}
+use Rattle.checks.specs.declared.Ruling.the-variants.{Refused, Allowed}
 
 -- a session to be written to an output
 abbrev pub offered : Sides → Order → Settings → List ℕ → List ℤ → List ℕ → Writing
@@ -25,19 +24,6 @@ pub record WriteOf (s : Sides) (o : Order) (t : Settings) (ls : List ℕ) (vs : 
   pub answer : r .answer ≡ writing (offered s o t ls vs old) .answer
   pub count : r .count ≡ writing (offered s o t ls vs old) .count
   pub output : new ≡ writing (offered s o t ls vs old) .output
-
--- ---- inside: lengths
-pub record ThreeDigits (a b c r : ℕ) : Type 0 where
-  pub is : r ≡ length (decimal a) + length (decimal b) + length (decimal c)
-  pub few : r ≤ 12884901888
-
-pub record OrderLength (o : Order) (r : ℕ) : Type 0 where
-  pub is : r ≡ length (line (text "order=") (orderWord o))
-  pub few : r ≤ 13
-
-pub record HeaderLength (s : Sides) (o : Order) (t : Settings) (r : ℕ) : Type 0 where
-  pub is : r ≡ length (headerWritten s o t)
-  pub few : r ≤ 25769803828
 
 -- ---- inside: the judgement
 unfoldable pub RoomIf : ℕ → ℕ → Ruling → Type 0

@@ -2,24 +2,24 @@
 ghost use mathlib.Core.Path.{_≡_};
 ghost use Rattle.method.specs.Answers.{verdict};
 ghost use Rattle.method.specs.Calls.{contentChecks};
-ghost use Rattle.session.specs.Lines.{HeaderOf};
-ghost use Rattle.session.specs.Reads.{JudgedOf, Sized, asked};
-ghost use Rattle.session.specs.Rulings.{rulingOf};
-ghost use Rattle.session.specs.declared.HeaderRead.the-variants.{Named};
-use crate::Header;
-use crate::HeaderRead;
+ghost use Rattle.header.specs.Lines.{HeaderOf};
+ghost use Rattle.session.specs.Reads.{Bodied, JudgedOf, Sized, asked};
+ghost use Rattle.checks.specs.Rulings.{rulingOf};
+ghost use Rattle.header.specs.declared.HeaderRead.the-variants.{Named};
 use crate::Judged;
-use crate::Ruling;
-use crate::checks::bad_label;
-use crate::checks::cells_of;
-use crate::checks::settings_fit;
-use crate::checks::sides_fit;
-use crate::line::rest;
-use crate::lines::header;
-use crate::rule::earlier;
-use crate::rule::fault_unless;
-use crate::rule::ruled;
-use crate::value::bad_value;
+use crate::sizes::judge_sides;
+use checks::Ruling;
+use checks::cast::bad_label;
+use checks::cast::settings_fit;
+use checks::rule::earlier;
+use checks::rule::fault_unless;
+use checks::rule::ruled;
+use grid::place::cell_count;
+use header::Header;
+use header::HeaderRead;
+use header::line::rest;
+use header::read_header;
+use words::bad_value;
 
 // Checks 3, 4 and 5, of a body of n cells.
 fn judge_content(bytes: &[u8], n: usize, h: Header) -> Ruling
@@ -36,27 +36,31 @@ fn judge_content(bytes: &[u8], n: usize, h: Header) -> Ruling
     earlier(third, earlier(fourth, fifth))
 }
 
-// Checks 1, 11 and 2, and then those of the content.
+// Checks 2, 3, 4 and 5, of a session whose sizes are right.
+fn judge_body(bytes: &[u8], room: usize, h: Header) -> Judged
+    requires { ⌜ Bodied (now bytes) h ⌝ }
+    ensures { λ r. ⌜ JudgedOf (now (bytes .entry)) room r ⌝ }
+{
+    let sides = h.sides;
+    let n = cell_count(sides);
+    let second = ruled(2, fault_unless(n <= room));
+    match earlier(second, judge_content(bytes, n, h)) {
+        Ruling::Refused(number, place) => Judged::Refused(number, place),
+        Ruling::Allowed => Judged::Passed(h),
+    }
+}
+
+// Checks 1 and 11, and then the others.
 fn judge_sizes(bytes: &[u8], room: usize, h: Header) -> Judged
     requires { ⌜ HeaderOf (now bytes) (Named h) ⌝ }
     ensures { λ r. ⌜ JudgedOf (now (bytes .entry)) room r ⌝ }
 {
     let sides = h.sides;
-    if !sides_fit(sides) {
-        return Judged::Refused(1, 0);
-    }
-    let n = cells_of(sides);
     let start = h.start;
     let left = bytes.len() - start;
-    if left != 5 * n {
-        return Judged::Refused(11, 0);
-    }
-    if room < n {
-        return Judged::Refused(2, 0);
-    }
-    match judge_content(bytes, n, h) {
+    match judge_sides(sides, left) {
         Ruling::Refused(number, place) => Judged::Refused(number, place),
-        Ruling::Allowed => Judged::Passed(h),
+        Ruling::Allowed => judge_body(bytes, room, h),
     }
 }
 
@@ -64,7 +68,7 @@ fn judge_sizes(bytes: &[u8], room: usize, h: Header) -> Judged
 pub(crate) fn judge_session(bytes: &[u8], room: usize) -> Judged
     ensures { λ r. ⌜ JudgedOf (now (bytes .entry)) room r ⌝ }
 {
-    match header(bytes) {
+    match read_header(bytes) {
         HeaderRead::Wrong(line) => Judged::Refused(10, line),
         HeaderRead::Named(h) => judge_sizes(bytes, room, h),
     }

@@ -1,55 +1,25 @@
 // The reader and the writer of a session (document 01, "The session form").
-mod checks;
-mod decimal;
 mod judge;
-mod line;
-mod lines;
-mod puts;
-mod rule;
-mod value;
+mod sizes;
 mod writer;
 
 ghost use mathlib.Core.Path.{_≡_};
 ghost use Rattle.method.specs.Answers.{refusal as Answers·refusal};
 ghost use Rattle.method.specs.Calls.{reading};
-ghost use Rattle.session.specs.Reads.{ReadOf, asked};
+ghost use Rattle.session.specs.Reads.{FitIf, ReadOf, asked, takenOf};
 ghost use Rattle.session.specs.Writes.{WriteOf};
-use checks::cells_of;
+use checks::Ruling;
+use grid::place::cell_count;
+use header::Header;
+use header::line::rest;
 use judge::judge_session;
-use line::rest;
 use method::Answer;
 use method::Order;
 use method::Settings;
 use method::Sides;
 use puts::put_session;
-use value::store_values;
+use words::store_values;
 use writer::judge_cast;
-
-// One line, read: not of the form, or its value and how many bytes it took.
-enum LineRead {
-    NotOfForm,
-    Value(u32, usize),
-}
-
-// Three lines of numbers, read: the number of the first that is not of the form, or the values and how many bytes they took.
-enum ThreeRead {
-    Wrong(u32),
-    Values(u32, u32, u32, usize),
-}
-
-// What the seven lines name, and where the body starts.
-struct Header {
-    sides: Sides,
-    order: Order,
-    settings: Settings,
-    start: usize,
-}
-
-// The seven lines, read: the number of the first that is not of the form, or what they name.
-enum HeaderRead {
-    Wrong(u32),
-    Named(Header),
-}
 
 // A session, judged: number and place of the first check that fails, or what the header names.
 enum Judged {
@@ -65,10 +35,11 @@ pub struct Session {
     pub settings: Settings,
 }
 
-// What checks say: number and place of the first that fails, or nothing against it.
-enum Ruling {
-    Refused(u32, u32),
-    Allowed,
+// What is taken of a session: what is handed back, where the body starts, and how many cells are read.
+struct Taken {
+    session: Session,
+    start: usize,
+    count: usize,
 }
 
 // What the writer hands back.
@@ -91,14 +62,15 @@ fn refusal(number: u32, place: u32) -> Answer
     }
 }
 
-// Reads a session: its header is handed back, its values are stored. All checks come before the first store.
-pub fn read(bytes: &[u8], values: &mut [i32]) -> Session
-    ensures { λ r. ⌜ ReadOf (now (bytes .entry)) (now (values .entry)) r (now (values .exit)) ⌝ }
+// What is taken of a session that was judged: of a refused one nothing, and no cell.
+fn taken_of(judged: Judged) -> Taken
+    requires { ⌜ FitIf judged ⌝ }
+    ensures { λ r. ⌜ r ≡ takenOf judged ⌝ }
 {
-    match judge_session(bytes, values.len()) {
+    match judged {
         Judged::Refused(number, place) => {
             let answer = refusal(number, place);
-            Session {
+            let session = Session {
                 answer,
                 sides: Sides {
                     nx: 0,
@@ -111,6 +83,11 @@ pub fn read(bytes: &[u8], values: &mut [i32]) -> Session
                     levels: 0,
                     rounds: 0,
                 },
+            };
+            Taken {
+                session,
+                start: 0,
+                count: 0,
             }
         }
         Judged::Passed(h) => {
@@ -118,33 +95,47 @@ pub fn read(bytes: &[u8], values: &mut [i32]) -> Session
             let order = h.order;
             let settings = h.settings;
             let start = h.start;
-            let n = cells_of(sides);
-            let body = rest(bytes, start);
-            store_values(body, n, order, values);
             let answer = refusal(0, 0);
-            Session {
+            let session = Session {
                 answer,
                 sides,
                 order,
                 settings,
+            };
+            let count = cell_count(sides);
+            Taken {
+                session,
+                start,
+                count,
             }
         }
     }
+}
+
+// Reads a session: its header is handed back, its values are stored. All checks come before the first store.
+pub fn read(bytes: &[u8], values: &mut [i32]) -> Session
+    ensures { λ r. ⌜ ReadOf (now (bytes .entry)) (now (values .entry)) r (now (values .exit)) ⌝ }
+{
+    let judged = judge_session(bytes, values.len());
+    let taken = taken_of(judged);
+    let session = taken.session;
+    let order = session.order;
+    let start = taken.start;
+    let count = taken.count;
+    let body = rest(bytes, start);
+    store_values(body, count, order, values);
+    session
 }
 
 // The label part of a session that is read with room for so many values: no copy. Nothing where the reader refuses it.
 pub fn labels(bytes: &[u8], room: usize) -> &[u8]
     ensures { λ r. ⌜ now r ≡ reading (asked (now (bytes .entry)) room) .labels ⌝ }
 {
-    match judge_session(bytes, room) {
-        Judged::Refused(_, _) => &bytes[..0],
-        Judged::Passed(h) => {
-            let sides = h.sides;
-            let start = h.start;
-            let end = start + cells_of(sides);
-            &bytes[start..end]
-        }
-    }
+    let judged = judge_session(bytes, room);
+    let taken = taken_of(judged);
+    let start = taken.start;
+    let count = taken.count;
+    &bytes[start..start + count]
 }
 
 // Writes a session at the front of the output. All checks come before the first store.

@@ -3,8 +3,8 @@ use Rattle.session.proofs.JudgeLaws.{sized}
 use Rattle.session.proofs.judge.judge_session.Statement.{statement}
 use Rattle.session.proofs.judge.judge_session.Tie as tie
 
-header-requires : tie.Need-header-requires
-header-requires c κs = search sized
+read-header-requires : tie.Need-read-header-requires
+read-header-requires c κs = search sized
 
 enum-known-line : tie.Need-enum-known-line
 enum-known-line c = search sized
@@ -24,4 +24,4 @@ returns-2 c = search sized
 pub judge-session-spec : {M : Type 1} → statement M
 judge-session-spec =
     tie.close
-    (tie.spec header-requires enum-known-line enum-known-h judge-sizes-requires returns returns-2)
+    (tie.spec read-header-requires enum-known-line enum-known-h judge-sizes-requires returns returns-2)

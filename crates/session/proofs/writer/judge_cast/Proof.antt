@@ -15,8 +15,8 @@ settings-fit-requires c κs = search casts
 returns-2 : tie.Need-returns-2
 returns-2 c = search casts
 
-cells-of-requires : tie.Need-cells-of-requires
-cells-of-requires c κs = search casts
+cell-count-requires : tie.Need-cell-count-requires
+cell-count-requires c κs = search casts
 
 returns-3 : tie.Need-returns-3
 returns-3 c = search casts
@@ -50,7 +50,7 @@ judge-cast-spec =
     returns
     settings-fit-requires
     returns-2
-    cells-of-requires
+    cell-count-requires
     returns-3
     returns-4
     header-length-requires

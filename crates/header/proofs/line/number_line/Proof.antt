@@ -1,0 +1,65 @@
+-- `header::line::number_line` meets its contract: each return by the tests that led there. Assumes nothing.
+use Rattle.header.proofs.LineLaws.{lines}
+use Rattle.header.proofs.line.number_line.Statement.{statement}
+use Rattle.header.proofs.line.number_line.Tie as tie
+
+starts-requires : tie.Need-starts-requires
+starts-requires c κs = search lines
+
+returns : tie.Need-returns
+returns c = search lines
+
+rest-requires : tie.Need-rest-requires
+rest-requires c κs = search lines
+
+digit-count-requires : tie.Need-digit-count-requires
+digit-count-requires c κs = search lines
+
+rest-requires-2 : tie.Need-rest-requires-2
+rest-requires-2 c κs = search lines
+
+slice-aggregate-starts : tie.Need-slice-aggregate-starts
+slice-aggregate-starts c = search lines
+
+starts-requires-2 : tie.Need-starts-requires-2
+starts-requires-2 c κs = search lines
+
+returns-2 : tie.Need-returns-2
+returns-2 c = search lines
+
+is-number-requires : tie.Need-is-number-requires
+is-number-requires c κs = search lines
+
+value-of-requires : tie.Need-value-of-requires
+value-of-requires c κs = search lines
+
+add-t15 : tie.Need-add-t15
+add-t15 c = search lines
+
+add-t16 : tie.Need-add-t16
+add-t16 c = search lines
+
+returns-3 : tie.Need-returns-3
+returns-3 c = search lines
+
+returns-4 : tie.Need-returns-4
+returns-4 c = search lines
+
+pub number-line-spec : {M : Type 1} → statement M
+number-line-spec =
+    tie.close
+    (tie.spec
+    starts-requires
+    returns
+    rest-requires
+    digit-count-requires
+    rest-requires-2
+    slice-aggregate-starts
+    starts-requires-2
+    returns-2
+    is-number-requires
+    value-of-requires
+    add-t15
+    add-t16
+    returns-3
+    returns-4)
