@@ -5,11 +5,12 @@ use mathlib.Core.Bool.{Bool, true, false, not, _&&_, _||_, cond}
 use mathlib.Core.List.{List, map, _∷_, _++_, append-nil}
 use Prim.Native.Nat.{ℕ, zero, suc, _+_, _^_, _≤_, _<_}
 use native.Mathlib.Omega.{arith}
+use borrow.Author.Needs.{needs}
 use borrow.Author.Tests.{eq-eqb, ne-eqb, le-leb, lt-leb}
 use lib.Dec.{eqb, leb}
 use lib.IntN.{ℤ, pos, natAbs}
 use lib.Ieee.{Float}
-use lib.ListN.{length, getD, set, length-set, drop-of-length-le, List·getD-eq-default}
+use lib.ListN.{length, getD, set, drop-of-length-le, List·getD-eq-default}
 use mir.Syntax.{w32, w64}
 use mir.Val.{SFits, toZ, ofZ}
 use mir.Facts.{toZ-ofZ}
@@ -21,7 +22,7 @@ use Rattle.laws.proofs.Lists.{getD-tab}
 use Rattle.laws.proofs.Zed.{abs-add}
 use Rattle.laws.proofs.Fill.{tab-same, up-same}
 use Rattle.laws.proofs.Fills.{filled-front}
-use Rattle.laws.proofs.Loops.{ups, up-first}
+use Rattle.laws.proofs.Loops.{up-first}
 use Rattle.method.specs.declared.Sides.{Sides}
 use Rattle.method.specs.declared.Settings.{Settings}
 use Rattle.method.specs.declared.Tick.{Tick}
@@ -31,7 +32,7 @@ use Rattle.method.specs.Levels.{value}
 use Rattle.method.specs.Rounds.{tick, ticks, isRefused, wholeOf, rounded, passes}
 use Rattle.theory.proofs.Pressures.{length-rounded}
 use Rattle.grid.proofs.Steps.{label-out}
-use Rattle.whole.proofs.Laws.{abs-32}
+use Rattle.whole.proofs.Laws.{wholes, abs-32}
 use Rattle.ticks.specs.declared.Faces.{Faces}
 use Rattle.ticks.proofs.TickWhole.{tick-within}
 use Rattle.ticks.proofs.Laws.{walks, Gathering, gathering-next, count-open, count-wall, sum-open, sum-wall}
@@ -210,4 +211,9 @@ written g ls vs x old new e f h =
     ∙ append-nil _
     ∙ sym (rounded-tab g ls vs x)
 
-pub ruleset trials = (walks, ups, pressure-air, pressure-opening, pressure-wall, refused-kept, refused-lost, refused-not, label-inside, added-open, added-wall, gathering-added, refused-fails, within-passes, beyond-fails, put, length-set)
+-- what closes the needs of the functions for one cell, for the six cells across its faces, and for the test
+pub ruleset pressed = (wholes, pressure-air, pressure-opening, pressure-wall, label-inside, added-open, added-wall, put)
+
+pub ruleset gathers = (walks, gathering-added)
+
+pub ruleset verdicts = (needs, refused-kept, refused-lost, refused-not, refused-fails, within-passes, beyond-fails)

@@ -1,6 +1,6 @@
 -- `trial::refused_at` meets its contract: by the label and the tick. Assumes nothing.
 use borrow.Author.Needs.{needs}
-use Rattle.trial.proofs.Laws.{trials}
+use Rattle.trial.proofs.Laws.{verdicts}
 use Rattle.trial.proofs.refused_at.Statement.{statement}
 use Rattle.trial.proofs.refused_at.Tie as tie
 
@@ -8,7 +8,7 @@ label-at-requires : tie.Need-label-at-requires
 label-at-requires c κs = search needs
 
 returns : tie.Need-returns
-returns c = search trials
+returns c = search verdicts
 
 mul-to-tick : tie.Need-mul-to-tick
 mul-to-tick c = search needs
@@ -26,10 +26,10 @@ enum-told-2 : tie.Need-enum-told-2
 enum-told-2 c = search needs
 
 returns-2 : tie.Need-returns-2
-returns-2 c = search trials
+returns-2 c = search verdicts
 
 returns-3 : tie.Need-returns-3
-returns-3 c = search trials
+returns-3 c = search verdicts
 
 pub refused-at-spec : {M : Type 1} → statement M
 refused-at-spec =

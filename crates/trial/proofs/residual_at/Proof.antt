@@ -12,7 +12,7 @@ use Rattle.laws.specs.Whole.{_+ᶻ_, _-ᶻ_, _*ᶻ_}
 use Rattle.method.specs.Cast.{field}
 use Rattle.ticks.proofs.Laws.{residual-made, source-is}
 use Rattle.trial.specs.Cells.{roundedOn}
-use Rattle.trial.proofs.Laws.{trials, pressure-is}
+use Rattle.trial.proofs.Laws.{gathers, pressure-is}
 use Rattle.trial.proofs.residual_at.Statement.{statement}
 use Rattle.trial.proofs.residual_at.Tie as tie
 
@@ -44,7 +44,7 @@ residual-of-requires c κs =
     let b = source w .1 in
     let k : natAbs (w .before .before .gather .result .sum) ≤ 2 ^ 44 = omega (arith, w .before .before .gather .ensures .small) in
     let h = c .before .whole-at .ensures .small in
-    search trials
+    search gathers
 
 returns : tie.Need-returns
 returns c =
@@ -55,7 +55,7 @@ returns c =
     let ps = roundedOn (s .args .g) (now (s .args .labels)) (now (s .args .values)) (now (s .args .x)) in
     let own : o .whole-at .result ≡ field ps (s .args .c) =
     pressure-is (s .args .g) (now (s .args .labels)) (now (s .args .values)) (now (s .args .x)) (s .args .c) 0 (o .whole-at .result) (s .pre .0 .labelled) (s .pre .1 .1) (o .whole-at .ensures) in
-    let e : c .residual-of .result ≡ w .wide .result +ᶻ m .result .sum -ᶻ pos (m .result .d) *ᶻ o .whole-at .result = search trials in
+    let e : c .residual-of .result ≡ w .wide .result +ᶻ m .result .sum -ᶻ pos (m .result .d) *ᶻ o .whole-at .result = search gathers in
     let f : SFits w64 (c .residual-of .result) = record { sfits = c .residual-of .ok } in
     rw (toZ-ofZ f)
     (residual-made (s .args .g) (now (s .args .labels)) (now (s .args .values)) ps (s .args .c) (m .result) (w .wide .result) (c .residual-of .result)

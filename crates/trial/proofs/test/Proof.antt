@@ -2,7 +2,7 @@
 use Prim.Native.Nat.{_≤_, _<_}
 use native.Mathlib.Omega.{arith}
 use borrow.Author.Needs.{needs}
-use Rattle.trial.proofs.Laws.{trials}
+use Rattle.trial.proofs.Laws.{verdicts}
 use Rattle.trial.proofs.test.Statement.{statement}
 use Rattle.trial.proofs.test.Tie as tie
 
@@ -10,7 +10,7 @@ some-refused-requires : tie.Need-some-refused-requires
 some-refused-requires c κs = search needs
 
 returns : tie.Need-returns
-returns c = search trials
+returns c = search verdicts
 
 worst-of-requires : tie.Need-worst-of-requires
 worst-of-requires c κs = search needs
@@ -25,13 +25,13 @@ returns-2 : tie.Need-returns-2
 returns-2 c =
     let s = c .before .before .before .before .before .before .before in
     let k : c .before .before .worst-of .result ≤ s .args .settings .tolerance = omega arith in
-    search trials
+    search verdicts
 
 returns-3 : tie.Need-returns-3
 returns-3 c =
     let s = c .before .before .before .before .before .before .before in
     let k : s .args .settings .tolerance < c .before .before .worst-of .result = omega arith in
-    search trials
+    search verdicts
 
 pub test-spec : {M : Type 1} → statement M
 test-spec =

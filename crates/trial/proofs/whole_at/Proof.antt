@@ -1,6 +1,6 @@
 -- `trial::whole_at` meets its contract: by the label. Assumes nothing.
 use borrow.Author.Needs.{needs}
-use Rattle.trial.proofs.Laws.{trials}
+use Rattle.trial.proofs.Laws.{pressed}
 use Rattle.trial.proofs.whole_at.Statement.{statement}
 use Rattle.trial.proofs.whole_at.Tie as tie
 
@@ -14,7 +14,7 @@ whole-back-requires : tie.Need-whole-back-requires
 whole-back-requires c κs = search needs
 
 returns : tie.Need-returns
-returns c = search trials
+returns c = search pressed
 
 mul-wide : tie.Need-mul-wide
 mul-wide c = search needs
@@ -26,10 +26,10 @@ wide-requires : tie.Need-wide-requires
 wide-requires c κs = search needs
 
 returns-2 : tie.Need-returns-2
-returns-2 c = search trials
+returns-2 c = search pressed
 
 returns-3 : tie.Need-returns-3
-returns-3 c = search trials
+returns-3 c = search pressed
 
 pub whole-at-spec : {M : Type 1} → statement M
 whole-at-spec =

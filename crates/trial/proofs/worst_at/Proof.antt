@@ -4,7 +4,7 @@ use Prim.Native.Nat.{_<_, _^_}
 use native.Mathlib.Omega.{arith}
 use borrow.Author.Needs.{needs}
 use lib.IntN.{natAbs}
-use Rattle.trial.proofs.Laws.{trials}
+use Rattle.trial.proofs.Laws.{gathers}
 use Rattle.trial.proofs.worst_at.Statement.{statement}
 use Rattle.trial.proofs.worst_at.Tie as tie
 
@@ -15,16 +15,16 @@ residual-at-requires : tie.Need-residual-at-requires
 residual-at-requires c κs = search needs
 
 size-requires : tie.Need-size-requires
-size-requires c κs = let h : natAbs (c .residual-at .result) < 2 ^ 63 = omega (arith, c .residual-at .ensures .small) in search trials
+size-requires c κs = let h : natAbs (c .residual-at .result) < 2 ^ 63 = omega (arith, c .residual-at .ensures .small) in search gathers
 
 returns : tie.Need-returns
-returns c = let n : c .before .size .result ≡ natAbs (c .before .before .residual-at .result) = search trials in search trials
+returns c = let n : c .before .size .result ≡ natAbs (c .before .before .residual-at .result) = search gathers in search gathers
 
 returns-2 : tie.Need-returns-2
-returns-2 c = let n : c .before .size .result ≡ natAbs (c .before .before .residual-at .result) = search trials in search trials
+returns-2 c = let n : c .before .size .result ≡ natAbs (c .before .before .residual-at .result) = search gathers in search gathers
 
 returns-3 : tie.Need-returns-3
-returns-3 c = search trials
+returns-3 c = search gathers
 
 pub worst-at-spec : {M : Type 1} → statement M
 worst-at-spec =

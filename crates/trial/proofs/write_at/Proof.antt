@@ -3,7 +3,7 @@ use mathlib.Core.Path.{ap}
 use borrow.Author.Needs.{needs}
 use denote.Ref.{now}
 use lib.ListN.{set}
-use Rattle.trial.proofs.Laws.{trials}
+use Rattle.trial.proofs.Laws.{pressed}
 use Rattle.trial.proofs.write_at.Statement.{statement}
 use Rattle.trial.proofs.write_at.Tie as tie
 
@@ -23,7 +23,7 @@ same-length : tie.Need-same-length
 same-length c = search needs
 
 returns : tie.Need-returns
-returns c = let s = c .before .before .before .before in ap (set (now (s .args .pressures)) (s .args .c)) (search trials)
+returns c = let s = c .before .before .before .before in ap (set (now (s .args .pressures)) (s .args .c)) (search pressed)
 
 pub write-at-spec : {M : Type 1} → statement M
 write-at-spec =

@@ -1,9 +1,9 @@
 -- `trial::write_ticks` meets its contract: after c turns the first c pressures stand. Assumes nothing.
 use mathlib.Core.Path.{_≡_}
 use Prim.Native.Nat.{_≤_, _-_}
-use lib.ListN.{length}
-use Rattle.laws.proofs.Loops.{Up}
-use Rattle.trial.proofs.Laws.{trials, writing, written}
+use lib.ListN.{length, length-set}
+use Rattle.laws.proofs.Loops.{Up, ups}
+use Rattle.trial.proofs.Laws.{writing, written}
 use Rattle.trial.proofs.write_ticks.Statement.{statement}
 use Rattle.trial.proofs.write_ticks.Tie as tie
 
@@ -14,25 +14,25 @@ abbrev μ-loop : tie.MeasureT-loop
 μ-loop pressures₀ labels values x c₀ pressures c = length labels - c
 
 loop-holds : tie.Need-loop-holds Inv-loop μ-loop
-loop-holds c = search trials
+loop-holds c = search (ups, length-set)
 
 write-at-requires : tie.Need-write-at-requires Inv-loop μ-loop
-write-at-requires c κs = search trials
+write-at-requires c κs = search (ups, length-set)
 
 add-c : tie.Need-add-c Inv-loop μ-loop
-add-c c = search trials
+add-c c = search (ups, length-set)
 
 loop-less : tie.Need-loop-less Inv-loop μ-loop
-loop-less c = search trials
+loop-less c = search (ups, length-set)
 
 loop-again : tie.Need-loop-again Inv-loop μ-loop
-loop-again c = search trials
+loop-again c = search (ups, length-set)
 
 same-length : tie.Need-same-length Inv-loop μ-loop
-same-length c = search trials
+same-length c = search (ups, length-set)
 
 returns : tie.Need-returns Inv-loop μ-loop
-returns c = search (trials, written)
+returns c = search (ups, written)
 
 pub write-ticks-spec : {M : Type 1} → statement M
 write-ticks-spec =
