@@ -7,10 +7,10 @@ onecycle.py --frames                                    writes a few small casts
 import argparse
 import collections
 import random
+import resource
 import statistics
 import struct
 import sys
-import time
 
 sys.dont_write_bytecode = True
 import generate
@@ -247,30 +247,33 @@ def timed_casts(side):
 
 
 def seconds(words, cast, times):
-    given = frame(cast._replace(times=times))
-    start = time.perf_counter()
-    programs.run(words, given)
-    return time.perf_counter() - start
+    """The processor time of a run; time of the clock would count whatever else the machine does."""
+    before = resource.getrusage(resource.RUSAGE_CHILDREN)
+    programs.run(words, frame(cast._replace(times=times)))
+    after = resource.getrusage(resource.RUSAGE_CHILDREN)
+    return after.ru_utime + after.ru_stime - before.ru_utime - before.ru_stime
 
 
-def cycle_time(words, cast, turns, runs):
-    """The time of one cycle: the median of the runs with many cycles less the median of those with one."""
-    few = statistics.median(seconds(words, cast, 1) for _ in range(runs))
-    many = statistics.median(seconds(words, cast, 1 + turns) for _ in range(runs))
-    return (many - few) / turns
+def cycle_times(commands, cast, turns, runs):
+    """The time of one cycle of each program: the median over runs with many cycles less that over runs with one. The programs run in turn."""
+    few, many = collections.defaultdict(list), collections.defaultdict(list)
+    for _ in range(runs):
+        for name, words in commands.items():
+            few[name].append(seconds(words, cast, 1))
+            many[name].append(seconds(words, cast, 1 + turns))
+    return {name: (statistics.median(many[name]) - statistics.median(few[name])) / turns for name in commands}
 
 
 def measure(options):
-    words = {"ours": programs.command("onecycle"), "separate": programs.separate(options.program) + ["--onecycle"]}
+    commands = {"ours": programs.command("onecycle"), "separate": programs.separate(options.program) + ["--onecycle"]}
+    slower = 20 if programs.emulated() else 1
     for family in ("room", "strewn"):
-        took = {}
-        for side, turns in ((16, 800), (32, 100)):
-            for name in words:
-                took[name, side] = cycle_time(words[name], timed_casts(side)[family], turns // (20 if programs.emulated() else 1), options.runs)
+        took = {side: cycle_times(commands, timed_casts(side)[family], turns // slower, options.runs) for side, turns in ((16, 800), (32, 100))}
         for side in (16, 32):
-            print(f"{family} {side}x{side}x{side}, {LEVELS} levels: ours {1e3 * took['ours', side]:.3f} ms, separate {1e3 * took['separate', side]:.3f} ms, "
-                  f"ratio {took['ours', side] / took['separate', side]:.2f}")
-        print(f"{family} 32x32x32 to 16x16x16: ours {took['ours', 32] / took['ours', 16]:.2f}, separate {took['separate', 32] / took['separate', 16]:.2f}")
+            ours, theirs = took[side]["ours"], took[side]["separate"]
+            print(f"{family} {side}x{side}x{side}, {LEVELS} levels: ours {1e3 * ours:.3f} ms, separate {1e3 * theirs:.3f} ms, ratio {ours / theirs:.2f}")
+        growth = {name: took[32][name] / took[16][name] for name in commands}
+        print(f"{family} 32x32x32 to 16x16x16: ours {growth['ours']:.2f}, separate {growth['separate']:.2f}")
     return 0
 
 
