@@ -36,8 +36,8 @@ use Rattle.onecycle.specs.Run.{Asked}
 
 -- ---- bits
 -- a pattern whose magnitude is no greater than the infinity's is no NaN's
-pub pattern-no-nan : (n : ℕ) → n % 9223372036854775808 ≤ 9218868437227405312 → T (not (nanBits binary64 n))
-pattern-no-nan n h = subst (λ b. T (not b)) (sym (nanBits-above binary64 n ∙ le-ltb 9218868437227405312 (n % 9223372036854775808) h)) tt
+pub pattern-no-nan : (n : ℕ) → n % 0x8000_0000_0000_0000 ≤ 0x7ff0_0000_0000_0000 → T (not (nanBits binary64 n))
+pattern-no-nan n h = subst (λ b. T (not b)) (sym (nanBits-above binary64 n ∙ le-ltb 0x7ff0_0000_0000_0000 (n % 0x8000_0000_0000_0000) h)) tt
 
 is-nan : (x : Float) → isNan x ≡ true → nan ≡ x
 unfolding isNan
@@ -46,9 +46,9 @@ is-nan (inf s) e = absurd (subst (λ b. T (not b)) e tt)
 is-nan (fin s m e) q = absurd (subst (λ b. T (not b)) q tt)
 
 -- and a greater one is
-pub pattern-nan : (n : ℕ) → 9218868437227405312 < n % 9223372036854775808 → div binary64 (ofBits binary64 0) (ofBits binary64 0) ≡ ofBits binary64 n
+pub pattern-nan : (n : ℕ) → 0x7ff0_0000_0000_0000 < n % 0x8000_0000_0000_0000 → div binary64 (ofBits binary64 0) (ofBits binary64 0) ≡ ofBits binary64 n
 unfolding div ofBits
-pattern-nan n h = is-nan (ofBits binary64 n) (sym (nanBits-is binary64 n) ∙ nanBits-above binary64 n ∙ lt-ltb 9218868437227405312 (n % 9223372036854775808) h)
+pattern-nan n h = is-nan (ofBits binary64 n) (sym (nanBits-is binary64 n) ∙ nanBits-above binary64 n ∙ lt-ltb 0x7ff0_0000_0000_0000 (n % 0x8000_0000_0000_0000) h)
 
 -- what equals itself is no NaN
 pub self-no-nan : (x : Float) → eq x x ≡ true → T (not (isNan x))

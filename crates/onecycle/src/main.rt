@@ -68,7 +68,7 @@ fn four_at(raw: &[u8], i: usize) -> u64
 fn float_of(bits: u64) -> f64
     ensures { λ r. ⌜ r ≡ ofBits binary64 bits ⌝ }
 {
-    if 9218868437227405312 < bits % 9223372036854775808 {
+    if 0x7ff0_0000_0000_0000 < bits % 0x8000_0000_0000_0000 {
         0.0 / 0.0
     } else {
         f64::from_bits(bits)
@@ -214,7 +214,7 @@ fn bad() -> bool {
 }
 
 // A cast whose labels were read: its b is read, the cycle is run, the result is printed. False where the frame is not of the form.
-fn solve(
+fn cycle_lines(
     room: &mut [f64],
     bytes: &mut [u8],
     words: &mut [u32],
@@ -269,7 +269,7 @@ fn cast(
     if room.len() < 6 * n + 15 {
         return bad();
     }
-    solve(room, bytes, words, raw, &labels[..n], g, count, times)
+    cycle_lines(room, bytes, words, raw, &labels[..n], g, count, times)
 }
 
 // A frame by its head.

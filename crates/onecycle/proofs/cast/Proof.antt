@@ -74,14 +74,14 @@ same-length-5 c = search casts
 returns-5 : tie.Need-returns-5
 returns-5 c = search casts
 
-slice-reshare-prefix-solve : tie.Need-slice-reshare-prefix-solve
-slice-reshare-prefix-solve c = search casts
+slice-reshare-prefix-cycle-lines : tie.Need-slice-reshare-prefix-cycle-lines
+slice-reshare-prefix-cycle-lines c = search casts
 
-slice-aggregate-solve : tie.Need-slice-aggregate-solve
-slice-aggregate-solve c = simp length-take (omega arith)
+slice-aggregate-cycle-lines : tie.Need-slice-aggregate-cycle-lines
+slice-aggregate-cycle-lines c = simp length-take (omega arith)
 
-solve-requires : tie.Need-solve-requires
-solve-requires c κs = search casts
+cycle-lines-requires : tie.Need-cycle-lines-requires
+cycle-lines-requires c κs = search casts
 
 same-length-6 : tie.Need-same-length-6
 same-length-6 c = search casts
@@ -128,9 +128,9 @@ cast-spec =
     bad-requires-5
     same-length-5
     returns-5
-    slice-reshare-prefix-solve
-    slice-aggregate-solve
-    solve-requires
+    slice-reshare-prefix-cycle-lines
+    slice-aggregate-cycle-lines
+    cycle-lines-requires
     same-length-6
     same-length-7
     same-length-8

@@ -1,7 +1,7 @@
--- `onecycle::solve` meets its contract. A cast has at most 32,768 cells, and the room two fields of them. Assumes nothing.
+-- `onecycle::cycle_lines` meets its contract. A cast has at most 32,768 cells, and the room two fields of them. Assumes nothing.
 use Rattle.onecycle.proofs.Laws.{casts}
-use Rattle.onecycle.proofs.solve.Statement.{statement}
-use Rattle.onecycle.proofs.solve.Tie as tie
+use Rattle.onecycle.proofs.cycle_lines.Statement.{statement}
+use Rattle.onecycle.proofs.cycle_lines.Tie as tie
 
 mul-read-exactly : tie.Need-mul-read-exactly
 mul-read-exactly c = search casts
@@ -54,8 +54,8 @@ same-length-6 c = search casts
 returns-3 : tie.Need-returns-3
 returns-3 c = search casts
 
-pub solve-spec : {M : Type 1} → statement M
-solve-spec =
+pub cycle-lines-spec : {M : Type 1} → statement M
+cycle-lines-spec =
     tie.close
     (tie.spec
     mul-read-exactly
