@@ -6,6 +6,7 @@
  *   airway [--room N] --frames   many sessions, each behind a line bytes=N
  *   airway --piece NAME          one part of the method, see README.md
  *   airway --reread              reader, writer and walks by themselves, see README.md
+ *   airway --onecycle            the cycle on many casts, as often as each asks, see README.md
  *
  * Build with -ffp-contract=off: each operation rounds once.
  */
@@ -1333,11 +1334,68 @@ static int run_piece(const Piece *piece)
 }
 
 /* ------------------------------------------------------------------ */
+/* The cycle on many casts, each a frame                              */
+
+enum { HEAD = 6 };          /* nx, ny, nz, levels, and two bytes: how often */
+
+static uint64_t eight_bytes(const unsigned char *at)
+{
+    uint64_t whole = 0;
+    for (int n = 0; n < 8; n++)
+        whole = whole << 8 | at[n];
+    return whole;
+}
+
+static bool head_fits(const unsigned char *head)
+{
+    for (int axis = 0; axis < 3; axis++)
+        if (head[axis] < 1 || head[axis] > MAX_SIDE)
+            return false;
+    return head[3] >= 1 && head[3] <= MAX_LEVELS;
+}
+
+/* The labels and b of a frame whose head fits; false where they are cut off or a label is above 2. */
+static bool take_cast(const unsigned char *head)
+{
+    static unsigned char labels[MAX_CELLS], bytes[MAX_CELLS][8];
+    size_t cells = (size_t)head[0] * head[1] * head[2];
+    if (fread(labels, 1, cells, stdin) != cells || fread(bytes, 8, cells, stdin) != cells)
+        return false;
+    for (size_t cell = 0; cell < cells; cell++)
+        if (labels[cell] > WALL)
+            return false;
+    make_level(&level[0], head[0], head[1], head[2], labels);
+    for (size_t cell = 0; cell < cells; cell++) {
+        uint64_t bits = eight_bytes(bytes[cell]);
+        memcpy(&level[0].b[cell], &bits, sizeof bits);
+    }
+    return true;
+}
+
+/* Every cycle starts from u = 0 and leaves b, so that all give the same; it is printed once. */
+static int run_cycles(void)
+{
+    unsigned char head[HEAD];
+    size_t got;
+    while ((got = fread(head, 1, HEAD, stdin)) == HEAD && head_fits(head) && take_cast(head)) {
+        int levels = head[3], times = head[4] << 8 | head[5];
+        make_coarser_levels(levels);
+        cycle(0, levels);
+        for (int turn = 1; turn < times; turn++)
+            cycle(0, levels);
+        print_field(&level[0], level[0].u);
+    }
+    if (got != 0)
+        puts("frame=bad");
+    return 0;
+}
+
+/* ------------------------------------------------------------------ */
 /* Arguments                                                          */
 
 typedef struct {
     long room;
-    bool frames, reread;
+    bool frames, reread, cycles;
     const Piece *piece;
 } Options;
 
@@ -1362,6 +1420,8 @@ static bool read_options(int count, char **argument, Options *options)
             options->frames = true;
         } else if (strcmp(argument[n], "--reread") == 0) {
             options->reread = true;
+        } else if (strcmp(argument[n], "--onecycle") == 0) {
+            options->cycles = true;
         } else if (strcmp(argument[n], "--room") == 0 && n + 1 < count) {
             if (!whole_argument(argument[++n], &options->room))
                 return false;
@@ -1380,11 +1440,12 @@ int main(int count, char **argument)
 {
     Options options = {.room = PROGRAM_ROOM};
     if (!read_options(count, argument, &options)) {
-        fputs("usage: airway [--room N] [--frames] | --piece NAME | --reread\n", stderr);
+        fputs("usage: airway [--room N] [--frames] | --piece NAME | --reread | --onecycle\n", stderr);
         return 2;
     }
     int status = options.piece != NULL ? run_piece(options.piece)
                : options.reread ? run_reread()
+               : options.cycles ? run_cycles()
                : options.frames ? run_frames(options.room)
                : run_session(options.room);
     return fflush(stdout) == 0 && !ferror(stdout) ? status : 1;

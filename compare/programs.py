@@ -5,16 +5,37 @@ import shutil
 import subprocess
 
 ROOT = os.path.dirname(os.path.dirname(os.path.abspath(__file__)))
+CROSS = "x86_64-linux-gnu-gcc"
+CROSS_LIBRARY = "/usr/x86_64-linux-gnu"
+
+
+def tools():
+    """The kit's toolchain for this processor. The kit is the parent of the folder in which the resolved rt stands."""
+    kit = os.path.dirname(os.path.dirname(os.path.realpath(shutil.which("rt"))))
+    return os.path.join(kit, "on", platform.machine(), "toolchain")
+
+
+def emulated():
+    """The words that run an x86-64 program here: none on x86-64, the kit's emulator elsewhere."""
+    emulator = os.path.join(tools(), "bin", "qemu-x86_64")
+    return [emulator] if os.path.exists(emulator) else []
 
 
 def command(name):
-    """The words that run target/bin/NAME. The kit is the parent of the folder in which the resolved rt stands."""
-    kit = os.path.dirname(os.path.dirname(os.path.realpath(shutil.which("rt"))))
-    tools = os.path.join(kit, "on", platform.machine(), "toolchain")
-    emulator = os.path.join(tools, "bin", "qemu-x86_64")
-    first = [emulator] if os.path.exists(emulator) else []
-    library = os.path.join(tools, "lib")
-    return first + [os.path.join(library, "ld-linux-x86-64.so.2"), "--library-path", library, os.path.join(ROOT, "target", "bin", name)]
+    """The words that run target/bin/NAME."""
+    library = os.path.join(tools(), "lib")
+    return emulated() + [os.path.join(library, "ld-linux-x86-64.so.2"), "--library-path", library, os.path.join(ROOT, "target", "bin", name)]
+
+
+def separate(program):
+    """The words that run the separate implementation for the same processor as our programs, so that times compare: as it was
+    built on x86-64; elsewhere built anew by Debian's cross compiler, beside it, and run under the emulator too."""
+    if not emulated():
+        return [program]
+    crossed = program + "-x86-64"
+    subprocess.run(["bash", os.path.join(ROOT, "compare", "build"), os.path.dirname(crossed)], check=True,
+                   env=dict(os.environ, CC=CROSS, NAME=os.path.basename(crossed)))
+    return emulated() + ["-L", CROSS_LIBRARY, crossed]
 
 
 def run(words, given):

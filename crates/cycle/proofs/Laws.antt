@@ -1,12 +1,15 @@
 -- One level's strokes: from the rooms that the kernels leave to the fields in them. Assumes nothing.
-use Prim.Native.Nat.{ℕ, suc, _+_, _-_, _*_, _^_, _≤_, _<_}
+use Prim.Native.Nat.{ℕ, suc, _+_, _-_, _*_, _^_, _/_, _%_, _≤_, _<_}
 use mathlib.Core.Path.{_≡_, refl, sym, ap, ap₂, _∙_}
+use mathlib.Core.Logic.{⊎-elim}
 use mathlib.Core.Bool.{Bool, true, false}
 use mathlib.Core.List.{List, [], _++_, append-assoc, append-nil}
 use native.Mathlib.Omega.{arith}
 use native.Mathlib.Numerals.{add-one}
-use native.Mathlib.Nat.{two-pow-succ, pow-le-pow-right}
+use native.Mathlib.Nat.{two-pow-succ, pow-le-pow-right, eq-zero-or-pos}
 use borrow.Author.Needs.{needs}
+use borrow.Author.Tests.{eq-eqb, ne-eqb, lt-ltb, le-ltb}
+use lib.Dec.{eqb, ltb}
 use lib.ListN.{length, take, drop, length-append, length-drop, take-append-drop, drop-of-length-le}
 use lib.Seq.{take-all, take-at, drop-at, length-take-le, drop-drop, take-take, take-append-le, drop-append-le}
 use borrow.Rule.Slice.PartMut.{midOf, putMid}
@@ -27,7 +30,7 @@ use Rattle.smooth.proofs.Fields.{laid, laid-u, laid-b, laid-t, laid-rest, laid-
 use Rattle.smooth.proofs.After.{after-jacobi, after-residual, zeros-length, inAir-length, sweptUp-length, sweptDown-length}
 use Rattle.smooth.proofs.Sweeps.{chosen-ascending, chosen-descending, chosen-below, band-air}
 use Rattle.transfer.specs.Transfer.{TwoLevels, restrictedRoom}
-use Rattle.cycle.specs.Strokes.{swept, sweepTurn, sweptRoom, Put, rising, Lowered}
+use Rattle.cycle.specs.Strokes.{swept, sweepTurn, sweptRoom, coarsestTurn, Put, rising, Lowered}
 
 -- ---- parts of a room
 -- a part that lies in the first of two lists
@@ -84,7 +87,21 @@ module _ (forward : Bool) (g : Sides) (ls cs : List ℕ) where
       (λ i u l. turn-front i u (drop (cells g) e) l)
       k (u-of (cells g) e) (length-take-le (cells g) e (omega arith))
 
-pub ruleset sweeping = (ups, forward-is, back-is, times-is)
+-- ---- the coarsest level's sixteen, in halves
+first-half : (i : ℕ) → i < 16 → eqb (i / 8 % 2) 0 ≡ ltb i 8
+first-half i h = ⊎-elim
+    (λ q. eq-eqb (i / 8 % 2) 0 (omega arith) ∙ sym (lt-ltb i 8 (omega arith)))
+    (λ q. ne-eqb (i / 8 % 2) 0 (λ e. omega arith) ∙ sym (le-ltb i 8 (omega arith)))
+    (eq-zero-or-pos (i / 8))
+
+pub half-is : (g : Sides) (ls cs : List ℕ) (i : ℕ) (e x : List Float) → i < 16 → x ≡ sweepTurn (eqb (i / 8 % 2) 0) g ls cs e → x ≡ coarsestTurn g ls cs i e
+half-is g ls cs i e x h q = q ∙ ap (λ f. sweepTurn f g ls cs e) (first-half i h)
+
+halves : {A : Type 0} (s : Bool → A → A) (e : A) → up (λ i. s (ltb i 8)) 16 e ≡ up (λ i. s false) 8 (up (λ i. s true) 8 e)
+unfolding up
+halves s e = refl
+
+pub ruleset sweeping = (ups, forward-is, back-is, times-is, half-is)
 
 -- ---- how many sweeps
 pub record Doubled (i n : ℕ) : Type 0 where
@@ -170,19 +187,6 @@ pub below-chosen : (at : ℕ → Bool) (n : ℕ) (cs : List ℕ) → cs ≡ chos
 below-chosen at n cs q = rw q (chosen-below at n)
 
 module _ (g : Sides) (ls cs : List ℕ) (e d x : List Float) (z : Level g ls e) (long : length d ≡ length e) where
-  pub coarsest-is : cs ≡ chosen (isAir ls) (cells g) → u-of (cells g) e ≡ zeros g → d ≡ sweptRoom 8 true g ls cs e → x ≡ sweptRoom 8 false g ls cs d
-      → Put (cells g) (3 * cells g) (coarsest g ls (b-of (cells g) e)) e x
-  unfolding coarsest
-  coarsest-is q o p r =
-      let n = cells g in
-      let b = b-of (cells g) e in
-      let first = sweeps-put g ls e d (z .roomy) 8 true cs p in
-      let second = sweeps-put g ls d x (omega (arith, z .roomy)) 8 false cs r in
-      put-as n (3 * n) _ _
-      (times-down g ls cs (isAir ls) (λ c a. a) q 8 b (times 8 (swept true g ls cs b) (u-of n e))
-      ∙ ap (times 8 (descending g ls (isAir ls) b)) (times-up g ls cs (isAir ls) (λ c a. a) q 8 b (u-of n e) ∙ ap (times 8 (ascending g ls (isAir ls) b)) o))
-      (put-then n (3 * n) _ (λ c v. times 8 (swept false g ls cs c) v) first second)
-
   module _ (k m : ℕ) (count : m ≡ sweeps k) (q : cs ≡ chosen (inBand g ls) (cells g)) where
     pub downstroke-is : u-of (cells g) e ≡ zeros g
         → d ≡ jacobi g ls (b-of (cells g) e) (u-of (cells g) e) ++ (b-of (cells g) e ++ (u-of (cells g) e ++ drop (3 * cells g) e))
@@ -212,7 +216,22 @@ module _ (g : Sides) (ls cs : List ℕ) (e d x : List Float) (z : Level g ls e) 
         (times-down g ls cs (inBand g ls) (band-air g ls) q m b (u-of n e) ∙ ap (λ j. times j (descending g ls (inBand g ls) b) (u-of n e)) count))
         (put-then n (3 * n) _ (λ c v. jacobi g ls c v) first second)
 
-pub ruleset strokes = (needs, below-chosen, coarsest-is, downstroke-is, upstroke-is)
+pub coarsest-is : (g : Sides) (ls cs : List ℕ) (e x : List Float) → Level g ls e → cs ≡ chosen (isAir ls) (cells g) → u-of (cells g) e ≡ zeros g
+    → x ≡ up (coarsestTurn g ls cs) 16 e → Put (cells g) (3 * cells g) (coarsest g ls (b-of (cells g) e)) e x
+unfolding coarsest
+coarsest-is g ls cs e x z q o r =
+    let n = cells g in
+    let b = b-of (cells g) e in
+    let d = up (turn true g ls cs) 8 e in
+    let first = sweeps-put g ls e d (z .roomy) 8 true cs (times-is true g ls cs 8 e d (z .roomy) refl) in
+    let room : 3 * cells g ≤ length (up (turn true g ls cs) 8 e) = omega (arith, first .long, z .roomy) in
+    let second = sweeps-put g ls d x room 8 false cs (times-is false g ls cs 8 d x room (r ∙ halves (λ forward s. sweepTurn forward g ls cs s) e)) in
+    put-as n (3 * n) _ _
+    (times-down g ls cs (isAir ls) (λ c a. a) q 8 b (times 8 (swept true g ls cs b) (u-of n e))
+    ∙ ap (times 8 (descending g ls (isAir ls) b)) (times-up g ls cs (isAir ls) (λ c a. a) q 8 b (u-of n e) ∙ ap (times 8 (ascending g ls (isAir ls) b)) o))
+    (put-then n (3 * n) _ (λ c v. times 8 (swept false g ls cs c) v) first second)
+
+pub ruleset strokes = (ups, below-chosen, coarsest-is, downstroke-is, upstroke-is)
 
 -- ---- the residual, restricted
 restricted-length : (g : Sides) (ls : List ℕ) (u : List Float) → length (restricted g ls u) ≡ cells (halved g)

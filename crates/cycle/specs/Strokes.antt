@@ -3,6 +3,7 @@ use Prim.Native.Nat.{ℕ, _+_, _*_}
 use mathlib.Core.Path.{_≡_}
 use mathlib.Core.Bool.{Bool, true, false}
 use mathlib.Core.List.{List, _++_}
+use lib.Dec.{ltb}
 use lib.ListN.{length, drop}
 use lib.Ieee.{Float}
 use Rattle.method.specs.declared.Sides.{Sides}
@@ -22,6 +23,10 @@ sweepTurn forward g ls cs e = swept forward g ls cs (b-of (cells g) e) (u-of (ce
 
 abbrev pub sweptRoom : ℕ → Bool → Sides → List ℕ → List ℕ → List Float → List Float
 sweptRoom k forward g ls cs e = times k (swept forward g ls cs (b-of (cells g) e)) (u-of (cells g) e) ++ drop (cells g) e
+
+-- "8 ascending and 8 descending Gauss-Seidel sweeps": sweep i of the sixteen
+abbrev pub coarsestTurn : Sides → List ℕ → List ℕ → ℕ → List Float → List Float
+coarsestTurn g ls cs i e = sweepTurn (ltb i 8) g ls cs e
 
 -- from room e to room x, of fields of n elements: u becomes v; b, all beyond m elements and the length stay. What lies between isn't said.
 pub record Put (n m : ℕ) (v e x : List Float) : Type 0 where

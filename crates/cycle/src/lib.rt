@@ -10,7 +10,7 @@ ghost use Rattle.levels.specs.AllLists.{partIn};
 ghost use Rattle.smooth.specs.Fields.{u-of, b-of, Level};
 ghost use Rattle.smooth.specs.Sweeps.{Below, chosen};
 ghost use Rattle.transfer.specs.Transfer.{TwoLevels};
-ghost use Rattle.cycle.specs.Strokes.{sweepTurn, sweptRoom, Put, rising, Lowered};
+ghost use Rattle.cycle.specs.Strokes.{sweepTurn, sweptRoom, coarsestTurn, Put, rising, Lowered};
 ghost use Rattle.cycle.specs.Rooms.{listFrom, Ready, Cycled, Corrected, LabelsAt, ListAt};
 use levels::lists::Lists;
 use levels::sides::Levels;
@@ -56,6 +56,16 @@ fn sweep_count(k: usize) -> usize
     n
 }
 
+// Sweep i of the coarsest level's sixteen, in halves of eight: the first ascends, the second descends.
+fn coarsest_sweep(room: &mut [f64], labels: &[u8], list: &[u32], g: Sides, i: usize)
+    requires { ⌜ Level g (now labels) (now room) ⌝ }
+    requires { ⌜ Below (cells g) (now list) ⌝ }
+    requires { ⌜ i < 16 ⌝ }
+    ensures { λ _. ⌜ now (room .exit) ≡ coarsestTurn g (now (labels .entry)) (now (list .entry)) i (now (room .entry)) ⌝ }
+{
+    sweep(room, labels, list, g, i / 8 % 2 == 0);
+}
+
 // The coarsest level, from u = 0: 8 ascending and 8 descending sweeps over its air cells.
 fn coarsest(room: &mut [f64], labels: &[u8], list: &[u32], g: Sides)
     requires { ⌜ Level g (now labels) (now room) ⌝ }
@@ -63,8 +73,11 @@ fn coarsest(room: &mut [f64], labels: &[u8], list: &[u32], g: Sides)
     requires { ⌜ u-of (cells g) (now room) ≡ zeros g ⌝ }
     ensures { λ _. ⌜ Put (cells g) (3 * cells g) (coarsest g (now (labels .entry)) (b-of (cells g) (now (room .entry)))) (now (room .entry)) (now (room .exit)) ⌝ }
 {
-    sweep_times(room, labels, list, g, true, 8);
-    sweep_times(room, labels, list, g, false, 8);
+    let mut i = 0;
+    while i < 16 {
+        coarsest_sweep(room, labels, list, g, i);
+        i += 1;
+    }
 }
 
 // A level's first half, from u = 0: one Jacobi, then ascending sweeps of the band.

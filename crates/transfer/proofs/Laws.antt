@@ -29,8 +29,11 @@ use Rattle.grid.proofs.Steps.{label-in}
 use Rattle.transfer.specs.Transfer.{Near, TwoLevels, weightAt, term, drawStep, restrictedAt, entryAt, giveStep, correctedAt}
 
 -- ---- the table's rule, from one computed test
-pub weight-is : (l : List Float) (k : ℕ) → k < 64 → l ≡ tab 64 (λ t. ofℕ (weightAt t)) → getD l k nan ≡ ofℕ (weightAt k)
-weight-is l k h e = ap (λ t. getD t k nan) e ∙ getD-tab 64 (λ t. ofℕ (weightAt t)) k nan h
+pub entry-is : (l : List ℕ) (k : ℕ) → k < 64 → l ≡ tab 64 weightAt → getD l k 0 ≡ weightAt k
+entry-is l k h e = ap (λ t. getD t k 0) e ∙ getD-tab 64 weightAt k 0 h
+
+pub weight-is : (k r : ℕ) → r ≡ weightAt k → ofℕ r ≡ ofℕ (weightAt k)
+weight-is k r e = ap ofℕ e
 
 -- ---- a term, by its cell's label
 module _ (ls : List ℕ) (u : List Float) (j w : ℕ) (a : Float) where

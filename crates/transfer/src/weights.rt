@@ -5,80 +5,89 @@ ghost use lib.ListN.{length};
 ghost use Rattle.laws.specs.Binary64.{ofℕ};
 ghost use Rattle.transfer.specs.Transfer.{weightAt, term};
 
-// Entry k is the product of the weights 1, 3, 3, 1 at k % 4, k / 4 % 4 and k / 16.
-const WEIGHTS: [f64; 64] = [
-    1.0, // the corner where all three weights are 1
-    3.0,
-    3.0,
-    1.0,
-    3.0,
-    9.0,
-    9.0,
-    3.0,
-    3.0,
-    9.0,
-    9.0,
-    3.0,
-    1.0,
-    3.0,
-    3.0,
-    1.0,
-    3.0,
-    9.0,
-    9.0,
-    3.0,
-    9.0,
-    27.0,
-    27.0,
-    9.0,
-    9.0,
-    27.0,
-    27.0,
-    9.0,
-    3.0,
-    9.0,
-    9.0,
-    3.0,
-    3.0,
-    9.0,
-    9.0,
-    3.0,
-    9.0,
-    27.0,
-    27.0,
-    9.0,
-    9.0,
-    27.0,
-    27.0,
-    9.0,
-    3.0,
-    9.0,
-    9.0,
-    3.0,
-    1.0,
-    3.0,
-    3.0,
-    1.0,
-    3.0,
-    9.0,
-    9.0,
-    3.0,
-    3.0,
-    9.0,
-    9.0,
-    3.0,
-    1.0,
-    3.0,
-    3.0,
-    1.0,
+// Entry k is the product of the weights 1, 3, 3, 1 at k % 4, k / 4 % 4 and k / 16. They are bytes, since a constant table is laid down anew
+// wherever it is read.
+const WEIGHTS: [u8; 64] = [
+    1, // the corner where all three weights are 1
+    3,
+    3,
+    1,
+    3,
+    9,
+    9,
+    3,
+    3,
+    9,
+    9,
+    3,
+    1,
+    3,
+    3,
+    1,
+    3,
+    9,
+    9,
+    3,
+    9,
+    27,
+    27,
+    9,
+    9,
+    27,
+    27,
+    9,
+    3,
+    9,
+    9,
+    3,
+    3,
+    9,
+    9,
+    3,
+    9,
+    27,
+    27,
+    9,
+    9,
+    27,
+    27,
+    9,
+    3,
+    9,
+    9,
+    3,
+    1,
+    3,
+    3,
+    1,
+    3,
+    9,
+    9,
+    3,
+    3,
+    9,
+    9,
+    3,
+    1,
+    3,
+    3,
+    1,
 ];
 
 // Entry k of the table.
+fn entry(k: usize) -> u8
+    requires { ⌜ k < 64 ⌝ }
+    ensures { λ r. ⌜ r ≡ weightAt k ⌝ }
+{
+    WEIGHTS[k]
+}
+
+// The same as a binary64.
 fn weight(k: usize) -> f64
     requires { ⌜ k < 64 ⌝ }
     ensures { λ r. ⌜ r ≡ ofℕ (weightAt k) ⌝ }
 {
-    WEIGHTS[k]
+    entry(k) as f64
 }
 
 // The sum a with the value of cell j under weight k, where the cell is air.
