@@ -4,7 +4,7 @@ use mathlib.Core.Path.{_≡_, refl, sym, ap, ap₂, subst, _∙_}
 use mathlib.Core.Logic.{⊎-elim}
 use mathlib.Core.Bool.{Bool, true, false, cond, _&&_}
 use mathlib.Core.List.{List, [], _∷_}
-use native.Mathlib.Nat.{mul-pos, mul-le-mul, le-antisymm, not-suc-le-zero, le-of-suc-le-suc, eq-or-lt-of-le}
+use native.Mathlib.Nat.{mul-pos, mul-le-mul, not-suc-le-zero, le-of-suc-le-suc, eq-or-lt-of-le}
 use native.Mathlib.Numerals.{add-one}
 use native.Mathlib.Omega.{arith}
 use lib.Dec.{T, T-not, eqb}
@@ -18,6 +18,7 @@ use Rattle.laws.specs.Loops.{up}
 use Rattle.laws.specs.Lists.{over}
 use Rattle.laws.proofs.Bools.{so, so-not}
 use Rattle.laws.proofs.Naturals.{le-or-lt}
+use Rattle.laws.proofs.Loops.{Up, up-none, up-more, up-end}
 use Rattle.method.specs.declared.Sides.{Sides}
 use Rattle.method.specs.declared.Found.the-variants.{Nowhere, At}
 use Rattle.method.specs.Cast.{Axis, cells, axes, along, labelAt, isAir, isOpening, back, on, beside, around, first}
@@ -27,22 +28,6 @@ use Rattle.theory.proofs.Counting.{count-le}
 use Rattle.theory.proofs.Firsts.{Search, found, none, search-first}
 use Rattle.walks.specs.Search.{Queue, queue, mark, entry, reach, reachAll, sideways, turn, start, cleared, started, searched, deeper, lost, Safe, Moved, Reaches, Held, Roomy}
 use Rattle.walks.proofs.SearchSafe.{moved-put, moved-keep, place-in}
-
--- ---- a loop whose body is a step
-module _ {A : Type 0} where
-  pub record Up (f : ℕ → A → A) (s₀ : A) (i : ℕ) (s : A) : Type 0 where
-    pub is : s ≡ up f i s₀
-
-  pub up-none : {f : ℕ → A → A} {s : A} → Up f s 0 s
-  unfolding up
-  up-none = record { is = refl }
-
-  pub up-more : {f : ℕ → A → A} {s₀ s t : A} {i : ℕ} → Up f s₀ i s → t ≡ f i s → Up f s₀ (i + 1) t
-  unfolding up
-  up-more {f} {s₀} {s} {t} {i} h e = record { is = rw add-one (e ∙ ap (f i) (h .is)) }
-
-  pub up-end : {f : ℕ → A → A} {s₀ s : A} {i : ℕ} (n : ℕ) → Up f s₀ i s → i ≤ n → n ≤ i → s ≡ up f n s₀
-  up-end {f} {s₀} {s} {i} n h a b = h .is ∙ ap (λ (k : ℕ). up f k s₀) (le-antisymm a b)
 
 -- ---- neighbours
 module _ (n stride side c : ℕ) where
