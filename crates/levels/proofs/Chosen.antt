@@ -1,7 +1,7 @@
 -- Laws of module `lists`: the cells below c that pass a test stand in the room, and there is room for the next. Assumes nothing.
 use Prim.Native.Nat.{ℕ, zero, suc, _+_, _-_, _≤_, _<_}
 use mathlib.Core.Path.{_≡_, refl, ap, ap₂, _∙_}
-use mathlib.Core.Bool.{Bool, true, false, _&&_, cond, false≢true}
+use mathlib.Core.Bool.{Bool, true, false, cond, false≢true}
 use mathlib.Core.List.{List}
 use native.Mathlib.Numerals.{add-one}
 use native.Mathlib.Omega.{arith}
@@ -11,12 +11,13 @@ use lib.ListN.{length, set, length-append}
 use mir.Syntax.{w64}
 use mir.Val.{Fits}
 use Rattle.laws.specs.Loops.{up}
-use Rattle.laws.specs.Lists.{any}
+use Rattle.laws.specs.Lists.{kept, chosen}
 use Rattle.method.specs.declared.Sides.{Sides}
 use Rattle.method.specs.Cast.{cells, labelAt, isAir, judged, interior}
-use Rattle.method.specs.Levels.{halved, givenTo, hasOther, inBand}
+use Rattle.method.specs.Levels.{halved, inBand}
 use Rattle.theory.proofs.Sides.{Fit}
-use Rattle.levels.specs.Rooms.{written, kept, chosen}
+use Rattle.theory.proofs.Children.{band-air}
+use Rattle.levels.specs.Rooms.{written}
 use Rattle.levels.specs.Other.{BandAsked}
 use Rattle.levels.specs.Lists.{bandOf, airOf, Placed, Listed}
 use Rattle.levels.specs.AllLists.{listOf}
@@ -104,12 +105,7 @@ air-within : (ls : List ℕ) → Within (isAir ls) (isAir ls)
 air-within ls c h = h
 
 band-within : (g : Sides) (ls : List ℕ) → Within (inBand g ls) (isAir ls)
-unfolding inBand
-band-within g ls c h = go (isAir ls c) (any (λ d. hasOther g ls (d .cell)) (givenTo g c)) h
-  where
-    go : (a b : Bool) → (a && b) ≡ true → a ≡ true
-    go true b h = refl
-    go false b h = h
+band-within g ls c h = band-air g ls c h
 
 -- ---- the cells below c that pass stand in the room
 module _ (p : ℕ → Bool) (e : List ℕ) (a : ℕ) where
