@@ -1,6 +1,6 @@
 -- Lists made and gone through from the first element on, and the numbers that pass a test.
 use Prim.Native.Nat.{ℕ, zero, suc}
-use mathlib.Core.Bool.{Bool, true, false, _||_, cond}
+use mathlib.Core.Bool.{Bool, false, _||_, cond}
 use mathlib.Core.List.{List, [], _∷_, _++_}
 
 module _ {A : Type 0} where
