@@ -22,20 +22,12 @@ use Rattle.method.specs.Cast.{Axis, cells, axes, labelAt, isAir, isOpening, bac
 use Rattle.theory.proofs.Sides.{x-axis, y-axis, z-axis}
 use Rattle.theory.proofs.Counting.{count-le}
 use Rattle.theory.proofs.Firsts.{none-none, none-more, none-end, hit}
-use Rattle.grid.proofs.Steps.{plane-pos, plane-most, plane-fits, cells-most}
+use Rattle.grid.proofs.Steps.{air-yes, air-no, plane-pos, plane-most, plane-fits, cells-most}
 use Rattle.walks.specs.Search.{Queue, queue, mark, entry, reach, reachAll, sideways, turn, start, cleared, started, searched, deeper, lost, Safe, Moved, Reaches, Held, Roomy}
 use Rattle.walks.proofs.SearchSafe.{moved-put, moved-keep, place-in}
 
 -- ---- labels
 module _ (ls : List ℕ) (j : ℕ) where
-  air-yes : j < length ls → getD ls j 0 ≡ 0 → isAir ls j ≡ true
-  unfolding isAir labelAt
-  air-yes l e = eq-eqb (getD ls j 2) 0 (getD-any ls j 2 0 l ∙ e)
-
-  air-no : j < length ls → (getD ls j 0 ≡ 0 → ⊥) → isAir ls j ≡ false
-  unfolding isAir labelAt
-  air-no l e = ne-eqb (getD ls j 2) 0 (λ z. e (getD-any ls j 0 2 l ∙ z))
-
   air-out : length ls ≤ j → isAir ls j ≡ false
   unfolding isAir labelAt
   air-out l = ne-eqb (getD ls j 2) 0 (λ z. omega (arith, List·getD-eq-default ls 2 {n = j} l))
