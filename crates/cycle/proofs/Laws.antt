@@ -17,6 +17,7 @@ use mir.Syntax.{w64}
 use mir.Val.{Fits}
 use lib.Ieee.{Float}
 use Rattle.laws.specs.Loops.{up}
+use Rattle.laws.specs.Lists.{chosen}
 use Rattle.laws.proofs.Loops.{ups}
 use Rattle.laws.proofs.Fill.{up-same, part-take, part-drop}
 use Rattle.laws.proofs.Fills.{up-keeps, up-front}
@@ -24,11 +25,12 @@ use Rattle.method.specs.declared.Sides.{Sides}
 use Rattle.method.specs.Cast.{cells, isAir}
 use Rattle.method.specs.Levels.{halved, coarse, inBand, restricted}
 use Rattle.method.specs.Cycle.{times, sweeps, ascending, descending, jacobi, residue, zeros, coarsest, downstroke}
+use Rattle.theory.proofs.Children.{band-air}
 use Rattle.smooth.specs.Fields.{u-of, b-of, t-of, Level, Laid}
-use Rattle.smooth.specs.Sweeps.{sweptUp, sweptDown, Below, chosen}
+use Rattle.smooth.specs.Sweeps.{sweptUp, sweptDown, Below}
 use Rattle.smooth.proofs.Fields.{laid, laid-u, laid-b, laid-t, laid-rest, laid-follows}
 use Rattle.smooth.proofs.After.{after-jacobi, after-residual, zeros-length, inAir-length, sweptUp-length, sweptDown-length}
-use Rattle.smooth.proofs.Sweeps.{chosen-ascending, chosen-descending, chosen-below, band-air}
+use Rattle.smooth.proofs.Sweeps.{chosen-ascending, chosen-descending, chosen-below}
 use Rattle.transfer.specs.Transfer.{TwoLevels, restrictedRoom}
 use Rattle.cycle.specs.Strokes.{swept, sweepTurn, sweptRoom, coarsestTurn, Put, rising, Lowered}
 

@@ -1,8 +1,7 @@
 -- A level in the lent rooms, and the next: what a cycle's calls ask, and what it makes of their promises. Assumes nothing.
-use Prim.Native.Nat.{ℕ, zero, suc, _+_, _-_, _*_, _≤_, _<_}
+use Prim.Native.Nat.{ℕ, suc, _+_, _-_, _*_, _≤_, _<_}
 use mathlib.Core.Path.{_≡_, refl, sym, ap, ap₂, _∙_}
-use mathlib.Core.Bool.{Bool, cond}
-use mathlib.Core.List.{List, [], _∷_, _++_}
+use mathlib.Core.List.{List, [], _++_}
 use native.Mathlib.Omega.{arith}
 use native.Mathlib.Numerals.{add-one}
 use borrow.Author.Needs.{needs}
@@ -13,6 +12,7 @@ use mir.Val.{Fits}
 use lib.ListN.{length, getD, take, drop, length-append, length-drop}
 use lib.Seq.{take-at, drop-at, length-take-le, drop-drop, take-take, take-append-le}
 use lib.Ieee.{Float}
+use Rattle.laws.specs.Lists.{chosen}
 use Rattle.laws.proofs.Fill.{part-take}
 use Rattle.method.specs.declared.Sides.{Sides}
 use Rattle.method.specs.Cast.{cells, isAir}
@@ -25,14 +25,12 @@ use Rattle.theory.proofs.Kept.{length-kept}
 use Rattle.grid.proofs.Steps.{cells-most}
 use Rattle.levels.specs.declared.sides.Levels.{Levels}
 use Rattle.levels.specs.declared.lists.Lists.{Lists}
-use Rattle.levels.specs.Rooms as rooms
 use Rattle.levels.specs.Levels.{base, startIn, sidesIn}
 use Rattle.levels.specs.Lists.{bandOf, airOf}
 use Rattle.levels.specs.AllLists.{partIn, baseLabels, listOf, listAt}
 use Rattle.levels.proofs.Starts.{start-of, sides-of}
 use Rattle.levels.proofs.Calls.{before-up-to}
 use Rattle.smooth.specs.Fields.{u-of, b-of, Level}
-use Rattle.smooth.specs.Sweeps.{chosen}
 use Rattle.smooth.proofs.After.{inAir-length}
 use Rattle.transfer.specs.Transfer.{TwoLevels, correctedRoom}
 use Rattle.cycle.specs.Strokes.{Put, rising, Lowered}
@@ -64,12 +62,6 @@ list-is s k words =
     ap (λ j. take j (drop (getD (s .start) k 0) words)) r
 
 pub ruleset parts = (needs, part-fit, part-end, part-fits, part-is, list-is)
-
--- ---- the two definitions of the cells that pass a test agree
-chosen-same : (p : ℕ → Bool) (n : ℕ) → rooms.chosen p n ≡ chosen p n
-unfolding rooms.chosen rooms.kept chosen
-chosen-same p zero = refl
-chosen-same p (suc n) = ap (λ c. c ++ cond (p n) (n ∷ []) []) (chosen-same p n)
 
 -- ---- the fields of the levels from k on: those of level k, and those of the levels from k + 1 on
 sides-next : (g : Sides) (k : ℕ) → sidesAt g (k + 1) ≡ halved (sidesAt g k)
@@ -172,14 +164,12 @@ module _ {l : Levels} {s : Lists} {count k : ℕ} {bytes words : List ℕ} {r : 
         unfolding listAt listOf bandOf
         band-listed h =
             list-here ∙ ap (λ b. listOf b (sidesOf l k) (labelsOf l bytes k)) (lt-ltb (k + 1) count h)
-            ∙ chosen-same (inBand (sidesOf l k) (labelsOf l bytes k)) (cellsOf l k)
             ∙ ap₂ (λ m c. chosen (inBand m c) (cells m)) (sym same-sides) (sym same-labels)
 
         pub air-listed : count ≤ k + 1 → cs ≡ chosen (isAir ls) (cells g)
         unfolding listAt listOf airOf
         air-listed h =
             list-here ∙ ap (λ b. listOf b (sidesOf l k) (labelsOf l bytes k)) (le-ltb (k + 1) count h)
-            ∙ chosen-same (isAir (labelsOf l bytes k)) (cellsOf l k)
             ∙ ap₂ (λ m c. chosen (isAir c) (cells m)) (sym same-sides) (sym same-labels)
 
         -- the coarsest level

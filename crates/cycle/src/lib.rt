@@ -3,12 +3,13 @@
 ghost use mathlib.Core.Path.{_≡_};
 ghost use Prim.Native.Nat.{_+_, _*_, _≤_, _<_};
 ghost use lib.ListN.{length};
+ghost use Rattle.laws.specs.Lists.{chosen};
 ghost use Rattle.method.specs.Cast.{cells, isAir};
 ghost use Rattle.method.specs.Levels.{inBand};
 ghost use Rattle.method.specs.Cycle.{sweeps, zeros, coarsest, downstroke};
 ghost use Rattle.levels.specs.AllLists.{partIn};
 ghost use Rattle.smooth.specs.Fields.{u-of, b-of, Level};
-ghost use Rattle.smooth.specs.Sweeps.{Below, chosen};
+ghost use Rattle.smooth.specs.Sweeps.{Below};
 ghost use Rattle.transfer.specs.Transfer.{TwoLevels};
 ghost use Rattle.cycle.specs.Strokes.{sweepTurn, sweptRoom, coarsestTurn, Put, rising, Lowered};
 ghost use Rattle.cycle.specs.Rooms.{listFrom, Ready, Cycled, Corrected, LabelsAt, ListAt};

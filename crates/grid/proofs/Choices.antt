@@ -1,16 +1,16 @@
 -- The meaning's choices along the three axes are places: the cell at coordinates counted from one, or the number of cells. Assumes nothing.
 use Prim.Native.Nat.{ℕ, _+_, _-_, _*_, _<_, _≤_}
-use mathlib.Core.Path.{_≡_, refl, sym, ap, ap₂, _∙_}
+use mathlib.Core.Path.{_≡_, refl, ap, ap₂, _∙_}
 use mathlib.Core.Bool.{Bool, true, false, _&&_, cond}
 use native.Mathlib.Omega.{arith}
 use lib.Dec.{ltb, leb}
 use borrow.Author.Tests.{ltb-true, leb-true, lt-ltb, le-ltb}
 use Rattle.method.specs.declared.Sides.{Sides}
 use Rattle.method.specs.Cast.{cells, number}
-use Rattle.method.specs.Levels.{Drawn, placed, joined}
+use Rattle.method.specs.Levels.{placed, joined}
 use Rattle.theory.proofs.Sides.{x-axis, y-axis, z-axis}
 use Rattle.theory.proofs.Numbers.{number-in}
-use Rattle.grid.specs.Place.{inBox, placeAt}
+use Rattle.grid.specs.Place.{placeAt}
 
 -- two cells joined: their sum where both are cells, and none where one is none
 cell-of : ℕ → ℕ → ℕ → ℕ

@@ -1,13 +1,14 @@
 -- What the functions of this crate ask. Assumes nothing.
-use Prim.Native.Nat.{ℕ, _+_, _*_, _/_, _%_, _^_, _<_, _≤_}
+use Prim.Native.Nat.{ℕ, _+_, _*_, _/_, _%_, _<_, _≤_}
 use mathlib.Core.Path.{_≡_, refl, sym, ap, _∙_}
 use native.Mathlib.Nat.{mul-le-mul, mod-eq-of-lt, div-one, div-div-eq-div-mul}
 use native.Mathlib.Omega.{arith}
 use Rattle.method.specs.declared.Sides.{Sides}
 use Rattle.method.specs.Cast.{cells}
 use Rattle.method.specs.Cast.{along}
-use Rattle.theory.proofs.Sides.{Fit, x-axis, y-axis, z-axis}
+use Rattle.theory.proofs.Sides.{z-axis}
 use Rattle.theory.proofs.Numbers.{coordinates-in, top}
+use Rattle.grid.specs.declared.place.Spot.{Spot}
 use Rattle.grid.specs.Place.{SpotOf}
 use borrow.Author.Needs.{needs}
 use mir.Syntax.{w64}
@@ -61,3 +62,10 @@ spotted g c l =
       in-y = p .in-y;
       in-z = rw z-is (p .in-z);
     }
+
+-- a cell has one spot
+pub spot-one : (g : Sides) (c : ℕ) (r q : Spot) → SpotOf g c r → SpotOf g c q → r ≡ q
+spot-one g c r q h k =
+    ap (λ x. record { x = x; y = r .y; z = r .z }) (h .is-x ∙ sym (k .is-x))
+    ∙ ap (λ y. record { x = q .x; y = y; z = r .z }) (h .is-y ∙ sym (k .is-y))
+    ∙ ap (λ z. record { x = q .x; y = q .y; z = z }) (h .is-z ∙ sym (k .is-z))

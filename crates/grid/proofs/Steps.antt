@@ -1,15 +1,17 @@
 -- Laws of module `near`: a label inside and outside, a step along an axis as the code tests it, the six cells. Assumes nothing.
-use mathlib.Core.Path.{_≡_, refl, sym}
+use mathlib.Core.Path.{_≡_, refl, sym, _∙_}
+use mathlib.Core.Bool.{true, false}
 use mathlib.Core.List.{List, [], _∷_}
 use Prim.Native.Nat.{ℕ, _+_, _-_, _*_, _/_, _%_, _^_, _≤_, _<_}
 use native.Mathlib.Nat.{mul-le-mul, mul-pos, mod-lt}
 use native.Mathlib.Omega.{arith}
 use borrow.Author.Needs.{needs}
+use borrow.Author.Tests.{eq-eqb, ne-eqb}
 use lib.ListN.{length, getD, List·getD-eq-default}
 use mir.Syntax.{w64}
 use mir.Val.{Fits}
 use Rattle.method.specs.declared.Sides.{Sides}
-use Rattle.method.specs.Cast.{cells, axes, along, labelAt, back, on, beside, around}
+use Rattle.method.specs.Cast.{cells, axes, along, labelAt, isAir, back, on, beside, around}
 use Rattle.laws.proofs.Lists.{getD-any}
 use Rattle.theory.proofs.Sides.{Fit, x-axis, y-axis, z-axis}
 use Rattle.theory.proofs.Neighbours.{back-yes, back-no, back-far, on-yes, on-no}
@@ -22,6 +24,16 @@ label-in ls j h = getD-any ls j 0 2 h
 pub label-out : (ls : List ℕ) (j : ℕ) → length ls ≤ j → 2 ≡ labelAt ls j
 unfolding labelAt
 label-out ls j h = sym (List·getD-eq-default ls 2 h)
+
+-- a cell's label, as code reads it inside, says whether it is air
+module _ (ls : List ℕ) (j : ℕ) (h : j < length ls) where
+  pub air-yes : getD ls j 0 ≡ 0 → isAir ls j ≡ true
+  unfolding isAir
+  air-yes e = eq-eqb (labelAt ls j) 0 (sym (label-in ls j h) ∙ e)
+
+  pub air-no : (getD ls j 0 ≡ 0 → ⊥) → isAir ls j ≡ false
+  unfolding isAir
+  air-no e = ne-eqb (labelAt ls j) 0 (λ p. e (label-in ls j h ∙ p))
 
 -- ---- a step, by its test
 module _ (n stride side c : ℕ) where

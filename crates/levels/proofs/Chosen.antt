@@ -1,7 +1,7 @@
 -- Laws of module `lists`: the cells below c that pass a test stand in the room, and there is room for the next. Assumes nothing.
 use Prim.Native.Nat.{ℕ, zero, suc, _+_, _-_, _≤_, _<_}
 use mathlib.Core.Path.{_≡_, refl, ap, ap₂, _∙_}
-use mathlib.Core.Bool.{Bool, true, false, _&&_, cond, false≢true}
+use mathlib.Core.Bool.{Bool, true, false, cond, false≢true}
 use mathlib.Core.List.{List}
 use native.Mathlib.Numerals.{add-one}
 use native.Mathlib.Omega.{arith}
@@ -11,12 +11,13 @@ use lib.ListN.{length, set, length-append}
 use mir.Syntax.{w64}
 use mir.Val.{Fits}
 use Rattle.laws.specs.Loops.{up}
-use Rattle.laws.specs.Lists.{any}
+use Rattle.laws.specs.Lists.{kept, chosen}
 use Rattle.method.specs.declared.Sides.{Sides}
 use Rattle.method.specs.Cast.{cells, labelAt, isAir, judged, interior}
-use Rattle.method.specs.Levels.{halved, givenTo, hasOther, inBand}
+use Rattle.method.specs.Levels.{halved, inBand}
 use Rattle.theory.proofs.Sides.{Fit}
-use Rattle.levels.specs.Rooms.{written, kept, chosen}
+use Rattle.theory.proofs.Children.{band-air}
+use Rattle.levels.specs.Rooms.{written}
 use Rattle.levels.specs.Other.{BandAsked}
 use Rattle.levels.specs.Lists.{bandOf, airOf, Placed, Listed}
 use Rattle.levels.specs.AllLists.{listOf}
@@ -86,13 +87,14 @@ module _ (p : ℕ → Bool) where
       go true e = omega arith
       go false e = omega arith
 
-abbrev Within : (ℕ → Bool) → (ℕ → Bool) → Type 0
-Within p q = (c : ℕ) → p c ≡ true → q c ≡ true
+-- what passes p passes q
+pub record Within (p q : ℕ → Bool) : Type 0 where
+  pub at : (c : ℕ) → p c ≡ true → q c ≡ true
 
 chosen-wider : (p q : ℕ → Bool) → Within p q → (n : ℕ) → length (chosen p n) ≤ length (chosen q n)
 unfolding chosen
 chosen-wider p q f zero = omega arith
-chosen-wider p q f (suc n) = omega (arith, chosen-suc p n, chosen-suc q n, chosen-wider p q f n, go (p n) (q n) (f n))
+chosen-wider p q f (suc n) = omega (arith, chosen-suc p n, chosen-suc q n, chosen-wider p q f n, go (p n) (q n) (f .at n))
   where
     go : (a b : Bool) → (a ≡ true → b ≡ true) → cond a 1 0 ≤ cond b 1 0
     go true true h = omega arith
@@ -100,16 +102,11 @@ chosen-wider p q f (suc n) = omega (arith, chosen-suc p n, chosen-suc q n, chose
     go false true h = omega arith
     go false false h = omega arith
 
-air-within : (ls : List ℕ) → Within (isAir ls) (isAir ls)
-air-within ls c h = h
+pub air-within : (ls : List ℕ) → Within (isAir ls) (isAir ls)
+air-within ls = record { at = λ c h. h }
 
-band-within : (g : Sides) (ls : List ℕ) → Within (inBand g ls) (isAir ls)
-unfolding inBand
-band-within g ls c h = go (isAir ls c) (any (λ d. hasOther g ls (d .cell)) (givenTo g c)) h
-  where
-    go : (a b : Bool) → (a && b) ≡ true → a ≡ true
-    go true b h = refl
-    go false b h = h
+pub band-within : (g : Sides) (ls : List ℕ) → Within (inBand g ls) (isAir ls)
+band-within g ls = record { at = band-air g ls }
 
 -- ---- the cells below c that pass stand in the room
 module _ (p : ℕ → Bool) (e : List ℕ) (a : ℕ) where
@@ -138,29 +135,14 @@ module _ (g : Sides) (ls : List ℕ) (e : List ℕ) (a : ℕ) (h : a + interior 
   pub chosen-more : (p : ℕ → Bool) (c r r′ : ℕ) (s s′ : List ℕ) → Placed e a (chosen p c) r s → Placed s r (kept (p c) c) r′ s′ → Placed e a (chosen p (c + 1)) r′ s′
   chosen-more p c r r′ s s′ u v = rw add-one (chosen-next p e a c r r′ s s′ (omega arith) u v)
 
-  module _ (p : ℕ → Bool) (w : Within p (isAir ls)) where
-    enough : (c : ℕ) → c ≤ cells g → length (chosen p c) ≤ interior g ls
-    enough c k = within-air g ls p w c k
+  -- the room keeps its length, and has a place for the next cell
+  pub room-same : (p : ℕ → Bool) (n c r : ℕ) (s : List ℕ) → n ≡ cells g → c ≤ n → Placed e a (chosen p c) r s → Within p (isAir ls) → length s ≡ length e
+  room-same p n c r s q k u w = ap length (u .room) ∙ length-written e a (chosen p c) (omega (arith, within-air g ls p w c (omega arith)))
 
-    kept-long : (c r : ℕ) (s : List ℕ) → c ≤ cells g → Placed e a (chosen p c) r s → length s ≡ length e
-    kept-long c r s k u = ap length (u .room) ∙ length-written e a (chosen p c) (omega (arith, enough c k))
-
-    kept-room : (c r : ℕ) (s : List ℕ) → c < cells g → Placed e a (chosen p c) r s → r + length (kept (p c) c) ≤ length s
-    kept-room c r s k u = omega (arith, u .next, kept-long c r s (omega arith) u, enough (suc c) k, chosen-suc p c, kept-one (p c) c)
-
-  -- the band
-  pub band-same : (n c r : ℕ) (s : List ℕ) → n ≡ cells g → c ≤ n → Placed e a (chosen (inBand g ls) c) r s → length s ≡ length e
-  band-same n c r s q k u = kept-long (inBand g ls) (band-within g ls) c r s (omega arith) u
-
-  pub band-room : (n c r : ℕ) (s : List ℕ) → n ≡ cells g → c < n → Placed e a (chosen (inBand g ls) c) r s → r + length (kept (inBand g ls c) c) ≤ length s
-  band-room n c r s q k u = kept-room (inBand g ls) (band-within g ls) c r s (omega arith) u
-
-  -- all air cells
-  pub air-same : (n c r : ℕ) (s : List ℕ) → n ≡ cells g → c ≤ n → Placed e a (chosen (isAir ls) c) r s → length s ≡ length e
-  air-same n c r s q k u = kept-long (isAir ls) (air-within ls) c r s (omega arith) u
-
-  pub airs-room : (n c r : ℕ) (s : List ℕ) → n ≡ cells g → c < n → Placed e a (chosen (isAir ls) c) r s → r + length (kept (isAir ls c) c) ≤ length s
-  airs-room n c r s q k u = kept-room (isAir ls) (air-within ls) c r s (omega arith) u
+  pub room-next : (p : ℕ → Bool) (b : Bool) (n c r : ℕ) (s : List ℕ) → n ≡ cells g → c < n → Placed e a (chosen p c) r s → Within p (isAir ls) → b ≡ p c
+      → r + length (kept b c) ≤ length s
+  room-next p b n c r s q k u w z =
+      rw z (omega (arith, u .next, room-same p n c r s q (omega arith) u w, within-air g ls p w (suc c) (omega arith), chosen-suc p c, kept-one (p c) c))
 
 listed : (e : List ℕ) (a : ℕ) (l : List ℕ) (r : ℕ) (s : List ℕ) → Placed e a l r s → Listed e a l (r - a) s
 listed e a l r s u = record { count = omega (arith, u .next); room = u .room }
@@ -180,4 +162,4 @@ band-asked g h n m c z p q r l = record { fine = z; next = p; count = q; coarse-
 
 pub ruleset keeps = (needs, keep-in, keep-fits, placed-one, placed-none, kept-same, placed-same, air-room, air-placed)
 
-pub ruleset choosing = (needs, chosen-none, chosen-more, band-same, band-room, air-same, airs-room, band-listed, air-listed, band-asked, next-fit)
+pub ruleset choosing = (needs, chosen-none, chosen-more, air-within, band-within, room-same, room-next, band-listed, air-listed, band-asked, next-fit)

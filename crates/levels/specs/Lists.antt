@@ -3,10 +3,11 @@ use Prim.Native.Nat.{ℕ, _+_}
 use mathlib.Core.Path.{_≡_}
 use mathlib.Core.List.{List}
 use lib.ListN.{length}
+use Rattle.laws.specs.Lists.{chosen}
 use Rattle.method.specs.declared.Sides.{Sides}
 use Rattle.method.specs.Cast.{cells, isAir}
 use Rattle.method.specs.Levels.{inBand}
-use Rattle.levels.specs.Rooms.{written, chosen}
+use Rattle.levels.specs.Rooms.{written}
 
 -- the band of a level, and all its air cells
 unfoldable pub bandOf : Sides → List ℕ → List ℕ

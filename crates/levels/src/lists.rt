@@ -2,10 +2,10 @@
 ghost use mathlib.Core.Path.{_≡_};
 ghost use Prim.Native.Nat.{_+_, _≤_, _<_};
 ghost use lib.ListN.{length};
+ghost use Rattle.laws.specs.Lists.{kept};
 ghost use Rattle.method.specs.Cast.{isAir, interior};
 ghost use Rattle.method.specs.Levels.{inBand};
 ghost use Rattle.theory.proofs.Sides.{Fit};
-ghost use Rattle.levels.specs.Rooms.{kept};
 ghost use Rattle.levels.specs.Other.{BandAsked};
 ghost use Rattle.levels.specs.Levels.{base};
 ghost use Rattle.levels.specs.Lists.{Placed, Listed, bandOf, airOf};

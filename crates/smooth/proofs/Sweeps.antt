@@ -4,7 +4,6 @@ use mathlib.Core.Path.{_≡_, refl, sym, ap, _∙_}
 use mathlib.Core.Logic.{⊎-elim}
 use mathlib.Core.Bool.{Bool, true, false, cond}
 use mathlib.Core.List.{List, [], _∷_, _++_, append-nil}
-use native.Mathlib.Numerals.{add-one}
 use native.Mathlib.Omega.{arith}
 use lib.ListN.{length, getD, set, take, drop, length-set, length-append, take-append-drop, List·getD-append}
 use lib.Seq.{take-at, drop-at, length-take-le, getD-append-seam}
@@ -13,20 +12,19 @@ use mir.Val.{Fits}
 use lib.Ieee.{Float}
 use Rattle.laws.specs.Binary64.{_⊕_}
 use Rattle.laws.specs.Loops.{up, down}
-use Rattle.laws.specs.Lists.{any}
-use Rattle.laws.proofs.Bools.{is-true, and-l, so}
+use Rattle.laws.specs.Lists.{kept, chosen}
 use Rattle.laws.proofs.Naturals.{le-or-lt}
 use Rattle.laws.proofs.Loops.{ups, downs}
 use Rattle.laws.proofs.Fill.{up-same}
 use Rattle.laws.proofs.Fills.{down-within, up-front, down-front}
 use Rattle.method.specs.declared.Sides.{Sides}
 use Rattle.method.specs.Cast.{cells, isAir}
-use Rattle.method.specs.Levels.{value, inBand, hasOther, givenTo}
+use Rattle.method.specs.Levels.{value}
 use Rattle.method.specs.Cycle.{change, relaxed, ascending, descending}
 use Rattle.theory.proofs.Sides.{Fit}
 use Rattle.grid.proofs.Steps.{cells-most}
 use Rattle.smooth.specs.Fields.{u-of, b-of, relaxTurn}
-use Rattle.smooth.specs.Sweeps.{relaxedAt, sweptUp, sweptDown, Below, chosen}
+use Rattle.smooth.specs.Sweeps.{relaxedAt, sweptUp, sweptDown, Below}
 
 -- ---- from the room to the fields
 pub relaxed-length : (g : Sides) (ls : List ℕ) (at : ℕ → Bool) (b : List Float) (c : ℕ) (u : List Float) → length (relaxed g ls at b c u) ≡ length u
@@ -108,7 +106,7 @@ module _ {A : Type 0} (f : ℕ → A → A) where
     tested c s = cond (at c) (f c s) s
 
     pub up-chosen : (n : ℕ) (s : A) → up (each (chosen at n)) (length (chosen at n)) s ≡ up tested n s
-    unfolding up chosen
+    unfolding up chosen kept
     up-chosen zero s = refl
     up-chosen (suc n) s = go (at n) ∙ ap (λ a. cond (at n) (f n a) a) (up-chosen n s)
       where
@@ -120,7 +118,7 @@ module _ {A : Type 0} (f : ℕ → A → A) where
         go false = ap (λ r. up (each r) (length r) s) (append-nil l)
 
     pub down-chosen : (n : ℕ) (s : A) → down (each (chosen at n)) (length (chosen at n)) s ≡ down tested n s
-    unfolding down chosen
+    unfolding down chosen kept
     down-chosen zero s = refl
     down-chosen (suc n) s = go (at n) ∙ down-chosen n (cond (at n) (f n s) s)
       where
@@ -154,35 +152,9 @@ module _ (g : Sides) (ls : List ℕ) (at : ℕ → Bool) (air : (c : ℕ) → at
   chosen-descending u = down-chosen (relaxed g ls (isAir ls) b) at (cells g) u
       ∙ down-within (λ c a. cond (at c) (relaxed g ls (isAir ls) b c a) a) (relaxed g ls at b) (cells g) u (λ c a h. tested-is c a)
 
--- the band's cells are air
-pub band-air : (g : Sides) (ls : List ℕ) (c : ℕ) → inBand g ls c ≡ true → isAir ls c ≡ true
-unfolding inBand
-band-air g ls c e = is-true (isAir ls c) (and-l (isAir ls c) (any (λ d. hasOther g ls (d .cell)) (givenTo g c)) (so e))
-
-module _ (g : Sides) (ls : List ℕ) (b u : List Float) where
-  pub air-ascending : sweptUp g ls (chosen (isAir ls) (cells g)) b u ≡ ascending g ls (isAir ls) b u
-  air-ascending = chosen-ascending g ls (isAir ls) (λ c e. e) b u
-
-  pub air-descending : sweptDown g ls (chosen (isAir ls) (cells g)) b u ≡ descending g ls (isAir ls) b u
-  air-descending = chosen-descending g ls (isAir ls) (λ c e. e) b u
-
-  pub band-ascending : sweptUp g ls (chosen (inBand g ls) (cells g)) b u ≡ ascending g ls (inBand g ls) b u
-  band-ascending = chosen-ascending g ls (inBand g ls) (band-air g ls) b u
-
-  pub band-descending : sweptDown g ls (chosen (inBand g ls) (cells g)) b u ≡ descending g ls (inBand g ls) b u
-  band-descending = chosen-descending g ls (inBand g ls) (band-air g ls) b u
-
--- ---- the chosen cells: one more or none, as a loop that lists them goes; they are below n, and no more than n
-pub chosen-yes : (at : ℕ → Bool) (n : ℕ) → at n ≡ true → chosen at (n + 1) ≡ chosen at n ++ (n ∷ [])
-unfolding chosen
-chosen-yes at n e = rw add-one (ap (λ t. chosen at n ++ cond t (n ∷ []) []) e)
-
-pub chosen-no : (at : ℕ → Bool) (n : ℕ) → at n ≡ false → chosen at (n + 1) ≡ chosen at n
-unfolding chosen
-chosen-no at n e = rw add-one (ap (λ t. chosen at n ++ cond t (n ∷ []) []) e ∙ append-nil (chosen at n))
-
+-- ---- the chosen cells are below n
 pub chosen-below : (at : ℕ → Bool) (n : ℕ) → Below n (chosen at n)
-unfolding chosen
+unfolding chosen kept
 chosen-below at zero = record { at = λ k h. absurd (omega arith) }
 chosen-below at (suc n) = record { at = λ k h. go (at n) (chosen-below at n .at) k h }
   where
@@ -199,15 +171,3 @@ chosen-below at (suc n) = record { at = λ k h. go (at n) (chosen-below at n .at
     go false p k h =
         let less : k < length l = omega (arith, length-append l []) in
         omega (arith, List·getD-append l [] 0 k less, p k less)
-
-pub chosen-length : (at : ℕ → Bool) (n : ℕ) → length (chosen at n) ≤ n
-unfolding chosen
-chosen-length at zero = omega arith
-chosen-length at (suc n) = go (at n) (chosen-length at n)
-  where
-    l : List ℕ
-    l = chosen at n
-
-    go : (t : Bool) → length l ≤ n → length (l ++ cond t (n ∷ []) []) ≤ suc n
-    go true p = omega (arith, length-append l (n ∷ []))
-    go false p = omega (arith, length-append l [])

@@ -1,32 +1,21 @@
 -- The kernels at one cell of the room are the meaning's at one cell of the fields. Assumes nothing.
 use Prim.Native.Nat.{ℕ, _+_, _-_, _*_, _≤_, _<_}
 use mathlib.Core.Path.{_≡_, refl, sym, ap, ap₂, _∙_}
-use mathlib.Core.Bool.{true, false, cond}
+use mathlib.Core.Bool.{cond}
 use mathlib.Core.List.{List, _++_}
 use native.Mathlib.Omega.{arith}
 use borrow.Author.Needs.{needs}
-use borrow.Author.Tests.{eq-eqb, ne-eqb}
 use lib.ListN.{length, getD, take, drop, set, length-drop, take-append-drop}
 use lib.Seq.{take-all, getD-take, getD-drop, take-set-lt, drop-set-lt}
 use lib.Ieee.{Float, nan, binary64, ofBits, div}
 use Rattle.laws.specs.Binary64.{_⊕_, _⊖_, _⊗_, _⊘_, +0, ofℕ}
 use Rattle.method.specs.declared.Sides.{Sides}
-use Rattle.method.specs.Cast.{cells, labelAt, isAir, degree}
+use Rattle.method.specs.Cast.{cells, degree}
 use Rattle.method.specs.Levels.{value}
 use Rattle.method.specs.Cycle.{airSum, applied, rest, change, relaxed}
-use Rattle.grid.proofs.Steps.{label-in}
+use Rattle.grid.proofs.Steps.{air-yes, air-no}
 use Rattle.smooth.specs.Fields.{u-of, b-of, t-of, relaxTurn, jacobiValue, residueValue, jacobiTurn, residueTurn}
 use Rattle.smooth.proofs.Sums.{value-front, airSum-front, airSum-take}
-
--- ---- the label as the code reads it
-module _ (ls : List ℕ) (c : ℕ) (h : c < length ls) where
-  pub air-yes : getD ls c 0 ≡ 0 → isAir ls c ≡ true
-  unfolding isAir
-  air-yes e = eq-eqb (labelAt ls c) 0 (sym (label-in ls c h) ∙ e)
-
-  pub air-no : (getD ls c 0 ≡ 0 → ⊥) → isAir ls c ≡ false
-  unfolding isAir
-  air-no e = ne-eqb (labelAt ls c) 0 (λ p. e (label-in ls c h ∙ p))
 
 -- ---- A u and b - A u, from what was gathered and from the fields in the room
 pub d-is : (k d : ℕ) → k ≡ d → ofℕ k ≡ ofℕ d

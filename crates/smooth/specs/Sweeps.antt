@@ -1,7 +1,6 @@
--- Sweeps over a list of cells, and the list of the cells that pass a test.
-use Prim.Native.Nat.{ℕ, zero, suc, _<_}
-use mathlib.Core.Bool.{Bool, cond}
-use mathlib.Core.List.{List, [], _∷_, _++_}
+-- Sweeps over a list of cells.
+use Prim.Native.Nat.{ℕ, _<_}
+use mathlib.Core.List.{List}
 use lib.ListN.{length, getD}
 use lib.Ieee.{Float}
 use Rattle.laws.specs.Loops.{up, down}
@@ -23,8 +22,3 @@ sweptDown g ls cs b u = down (relaxedAt g ls cs b) (length cs) u
 -- each number of the list is below n
 pub record Below (n : ℕ) (cs : List ℕ) : Type 0 where
   pub at : (k : ℕ) → k < length cs → getD cs k 0 < n
-
--- the numbers below n that pass a test, ascending
-unfoldable pub chosen : (ℕ → Bool) → ℕ → List ℕ
-chosen at zero = []
-chosen at (suc n) = chosen at n ++ cond (at n) (n ∷ []) []

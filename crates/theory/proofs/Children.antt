@@ -1,4 +1,4 @@
--- The children of a coarse cell, by their coordinates, and what a coarse cell's label says of them. Assumes nothing.
+-- The children of a coarse cell, by their coordinates, and what a coarse cell's label says of them; the band is air. Assumes nothing.
 use mathlib.Core.Path.{_≡_, refl, sym, ap, ap₂, _∙_}
 use mathlib.Core.Logic.{_⊎_, inl, inr}
 use mathlib.Core.Bool.{Bool, true, false, cond, _&&_}
@@ -11,8 +11,8 @@ use borrow.Author.Tests.{ltb-true, leb-true, lt-ltb, le-leb}
 use Rattle.laws.specs.Lists.{tab, any}
 use Rattle.method.specs.declared.Sides.{Sides}
 use Rattle.method.specs.Cast.{Axis, axes, along, cells, isAir, isOpening, labelAt}
-use Rattle.method.specs.Levels.{halved, halvings, Drawn, placed, joined, choice, choices, children, coarseLabel, coarse}
-use Rattle.laws.proofs.Bools.{is-true, so}
+use Rattle.method.specs.Levels.{halved, halvings, Drawn, placed, joined, choice, choices, children, coarseLabel, coarse, givenTo, hasOther, inBand}
+use Rattle.laws.proofs.Bools.{is-true, and-l, so}
 use Rattle.laws.proofs.Lists.{getD-tab, some-of, some-in}
 use Rattle.theory.proofs.Sides.{x-axis, y-axis, z-axis}
 use Rattle.theory.proofs.Reach.{air-test, test-air, opening-test, in-box}
@@ -167,3 +167,8 @@ module _ (s : Sides) (ls : List ℕ) (d x y z : ℕ) (q : Spot (halved s) d x y 
       let l : child s d (r .0) .cell < cells s = in-box (cells s) ls n (child s d (r .0) .cell) (omega arith) in
       let k = child-out s d x y z q (r .0) l in
       (child s d (r .0) .cell, k .0, k .1, k .2, k .3, k .4, k .5, k .6, a)
+
+-- ---- the band's cells are air
+pub band-air : (g : Sides) (ls : List ℕ) (c : ℕ) → inBand g ls c ≡ true → isAir ls c ≡ true
+unfolding inBand
+band-air g ls c e = is-true (isAir ls c) (and-l (isAir ls c) (any (λ d. hasOther g ls (d .cell)) (givenTo g c)) (so e))

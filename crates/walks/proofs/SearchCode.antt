@@ -1,13 +1,12 @@
 -- What the branches and loops of the search's code come to. Assumes nothing.
-use Prim.Native.Nat.{ℕ, zero, suc, _+_, _-_, _*_, _/_, _%_, _<_, _≤_, max}
+use Prim.Native.Nat.{ℕ, zero, suc, _+_, _-_, _<_, _≤_, max}
 use mathlib.Core.Path.{_≡_, refl, sym, ap, ap₂, subst, _∙_}
 use mathlib.Core.Logic.{⊎-elim}
 use mathlib.Core.Bool.{Bool, true, false, cond, _&&_}
 use mathlib.Core.List.{List, [], _∷_}
-use native.Mathlib.Nat.{mul-pos, mul-le-mul, le-antisymm, not-suc-le-zero, le-of-suc-le-suc, eq-or-lt-of-le}
-use native.Mathlib.Numerals.{add-one}
+use native.Mathlib.Nat.{le-of-suc-le-suc, eq-or-lt-of-le}
 use native.Mathlib.Omega.{arith}
-use lib.Dec.{T, T-not, eqb}
+use lib.Dec.{eqb}
 use lib.ListN.{length, getD, length-set, List·getD-eq-default}
 use lib.Seq.{getD-set-same, getD-set-other}
 use mir.Syntax.{w64}
@@ -16,73 +15,19 @@ use borrow.Author.Needs.{needs}
 use borrow.Author.Tests.{eq-eqb, ne-eqb, lt-ltb, le-ltb}
 use Rattle.laws.specs.Loops.{up}
 use Rattle.laws.specs.Lists.{over}
-use Rattle.laws.proofs.Bools.{so, so-not}
-use Rattle.laws.proofs.Naturals.{le-or-lt}
+use Rattle.laws.proofs.Lists.{getD-any}
+use Rattle.laws.proofs.Loops.{Up, up-none, up-more, up-end}
 use Rattle.method.specs.declared.Sides.{Sides}
-use Rattle.method.specs.declared.Found.the-variants.{Nowhere, At}
-use Rattle.method.specs.Cast.{Axis, cells, axes, along, labelAt, isAir, isOpening, back, on, beside, around, first}
-use Rattle.theory.proofs.Sides.{Fit, x-axis, y-axis, z-axis}
-use Rattle.theory.proofs.Neighbours.{back-yes, back-no, back-far, on-yes, on-no}
+use Rattle.method.specs.Cast.{Axis, cells, axes, labelAt, isAir, isOpening, back, on, beside, around}
+use Rattle.theory.proofs.Sides.{x-axis, y-axis, z-axis}
 use Rattle.theory.proofs.Counting.{count-le}
-use Rattle.theory.proofs.Firsts.{Search, found, none, search-first}
+use Rattle.theory.proofs.Firsts.{none-none, none-more, none-end, hit}
+use Rattle.grid.proofs.Steps.{air-yes, air-no, plane-pos, plane-most, plane-fits, cells-most}
 use Rattle.walks.specs.Search.{Queue, queue, mark, entry, reach, reachAll, sideways, turn, start, cleared, started, searched, deeper, lost, Safe, Moved, Reaches, Held, Roomy}
 use Rattle.walks.proofs.SearchSafe.{moved-put, moved-keep, place-in}
 
--- ---- a loop whose body is a step
-module _ {A : Type 0} where
-  pub record Up (f : ℕ → A → A) (s₀ : A) (i : ℕ) (s : A) : Type 0 where
-    pub is : s ≡ up f i s₀
-
-  pub up-none : {f : ℕ → A → A} {s : A} → Up f s 0 s
-  unfolding up
-  up-none = record { is = refl }
-
-  pub up-more : {f : ℕ → A → A} {s₀ s t : A} {i : ℕ} → Up f s₀ i s → t ≡ f i s → Up f s₀ (i + 1) t
-  unfolding up
-  up-more {f} {s₀} {s} {t} {i} h e = record { is = rw add-one (e ∙ ap (f i) (h .is)) }
-
-  pub up-end : {f : ℕ → A → A} {s₀ s : A} {i : ℕ} (n : ℕ) → Up f s₀ i s → i ≤ n → n ≤ i → s ≡ up f n s₀
-  up-end {f} {s₀} {s} {i} n h a b = h .is ∙ ap (λ (k : ℕ). up f k s₀) (le-antisymm a b)
-
--- ---- neighbours
-module _ (n stride side c : ℕ) where
-  pub code-back : 0 < c / stride % side → c - stride ≡ back n (record { stride = stride; side = side }) c
-  unfolding along
-  code-back h = sym (back-yes n (record { stride = stride; side = side }) c h)
-
-  pub code-back-no : c / stride % side ≤ 0 → n ≡ back n (record { stride = stride; side = side }) c
-  unfolding along
-  code-back-no h = sym (back-no n (record { stride = stride; side = side }) c h)
-
-  pub code-far : 0 < c / stride % side → stride ≤ c
-  unfolding along
-  code-far h = back-far (record { stride = stride; side = side }) c h
-
-  pub code-on : c / stride % side + 1 < side → c + stride ≡ on n (record { stride = stride; side = side }) c
-  unfolding along
-  code-on h = sym (on-yes n (record { stride = stride; side = side }) c h)
-
-  pub code-on-no : side ≤ c / stride % side + 1 → n ≡ on n (record { stride = stride; side = side }) c
-  unfolding along
-  code-on-no h = sym (on-no n (record { stride = stride; side = side }) c h)
-
-pub ruleset neighbours = (needs, code-back, code-back-no, code-far, code-on, code-on-no)
-
 -- ---- labels
-getD-any : (l : List ℕ) (j d e : ℕ) → j < length l → getD l j d ≡ getD l j e
-getD-any [] j d e h = absurd (not-suc-le-zero h)
-getD-any (x ∷ l) zero d e h = refl
-getD-any (x ∷ l) (suc j) d e h = getD-any l j d e (le-of-suc-le-suc h)
-
 module _ (ls : List ℕ) (j : ℕ) where
-  air-yes : j < length ls → getD ls j 0 ≡ 0 → isAir ls j ≡ true
-  unfolding isAir labelAt
-  air-yes l e = eq-eqb (getD ls j 2) 0 (getD-any ls j 2 0 l ∙ e)
-
-  air-no : j < length ls → (getD ls j 0 ≡ 0 → ⊥) → isAir ls j ≡ false
-  unfolding isAir labelAt
-  air-no l e = ne-eqb (getD ls j 2) 0 (λ z. e (getD-any ls j 0 2 l ∙ z))
-
   air-out : length ls ≤ j → isAir ls j ≡ false
   unfolding isAir labelAt
   air-out l = ne-eqb (getD ls j 2) 0 (λ z. omega (arith, List·getD-eq-default ls 2 {n = j} l))
@@ -149,20 +94,6 @@ moved-along n air m a b c x q p r e f h k = at-want same (then n air m (a ∷ []
 pub ruleset alongs = (needs, moved-along)
 
 -- ---- a box
-module _ (s : Sides) (f : Fit s) where
-  pub plane-pos : 0 < s .nx * s .ny
-  plane-pos = mul-pos (f .nx-one) (f .ny-one)
-
-  pub plane-small : s .nx * s .ny ≤ 1024
-  plane-small = mul-le-mul (f .nx-32) (f .ny-32)
-
-  pub plane-fits : Fits w64 (s .nx * s .ny)
-  plane-fits = omega (arith, plane-small)
-
-  pub cells-few : cells s ≤ 32768
-  unfolding cells
-  cells-few = mul-le-mul (f .nx-32) (mul-le-mul (f .ny-32) (f .nz-32))
-
 pub held-safe : (s : Sides) (ls : List ℕ) (q : Queue) → Held s ls q → Safe (length ls) q
 held-safe s ls q h = subst (λ n. Safe n q) (sym (h .sized)) (h .safe)
 
@@ -188,7 +119,7 @@ moved-six s ls m c q x y r e a b d = record {
 pub moved-safe : {n : ℕ} {q want got : Queue} → Moved n q want got → Safe n got
 moved-safe h = h .safe
 
-pub ruleset boxes = (needs, moved-safe, plane-pos, plane-small, plane-fits, held-safe, moved-six)
+pub ruleset boxes = (needs, moved-safe, plane-pos, plane-most, plane-fits, held-safe, moved-six)
 
 -- ---- a turn
 module _ (s : Sides) (ls room : List ℕ) (head tail : ℕ) (h : Held s ls (queue room tail)) (l : head < tail) where
@@ -258,7 +189,7 @@ cleared-safe n room few long = record {
 }
 
 pub cleared-roomy : (s : Sides) (ls room done : List ℕ) → Roomy s ls room → done ≡ up cleared (length ls) room → Safe (length ls) (queue done 0)
-cleared-roomy s ls room done r e = rw e (cleared-safe (length ls) room (omega (arith, r .sized, cells-few s (r .fit))) (omega (arith, r .sized, r .long)))
+cleared-roomy s ls room done r e = rw e (cleared-safe (length ls) room (omega (arith, r .sized, cells-most s (r .fit))) (omega (arith, r .sized, r .long)))
 
 pub held-first : (s : Sides) (ls room : List ℕ) (q want got : Queue) → Roomy s ls room → Moved (length ls) q want got → Held s ls got
 held-first s ls room q want got r m = record { fit = r .fit; sized = r .sized; safe = subst (λ n. Safe n got) (r .sized) (m .safe) }
@@ -303,36 +234,4 @@ module _ (ls room : List ℕ) (c : ℕ) (l : c < length ls) where
 pub ruleset marks = (needs, deeper-more, deeper-less, deeper-none, deeper-not, lost-air, lost-not)
 
 -- the first cell at which a test passes, where it passed at none before
-pub record None (test : ℕ → Bool) (i : ℕ) : Type 0 where
-  pub none-below : (j : ℕ) → j < i → test j ≡ false
-
-pub none-start : {test : ℕ → Bool} → None test 0
-none-start = record { none-below = λ j l. absurd (omega arith) }
-
-pub none-more : {test : ℕ → Bool} {i : ℕ} (r : Bool) → None test i → r ≡ test i → r ≡ false → None test (i + 1)
-none-more {test} {i} r h e f = record { none-below = λ j l. go j (rw add-one at l) }
-  where
-    go : (j : ℕ) → j < suc i → test j ≡ false
-    go j l = ⊎-elim (λ q. ap test q ∙ sym e ∙ f) (λ k. h .none-below j k) (eq-or-lt-of-le (le-of-suc-le-suc l))
-
-pub first-here : (test : ℕ → Bool) (n i : ℕ) (r : Bool) → None test i → i < n → r ≡ test i → r ≡ true → At i ≡ first test n
-first-here test n i r h l e f = go (search-first test n)
-  where
-    here : T (test i)
-    here = so (sym e ∙ f)
-
-    go : Search test n → At i ≡ first test n
-    go (none q g) = absurd (T-not (test i) (g i l) here)
-    go (found c q g) = ⊎-elim
-        (λ a. ⊎-elim (λ b. ap At b ∙ sym q) (λ b. absurd (T-not (test i) (g .before i b) here)) (eq-or-lt-of-le a))
-        (λ b. absurd (T-not (test c) (so-not (h .none-below c b)) (g .here)))
-        (le-or-lt i c)
-
-pub first-none : (test : ℕ → Bool) (n i : ℕ) → None test i → i ≤ n → n ≤ i → Nowhere ≡ first test n
-first-none test n i h a b = go (search-first test n)
-  where
-    go : Search test n → Nowhere ≡ first test n
-    go (none q g) = sym q
-    go (found c q g) = absurd (T-not (test c) (so-not (h .none-below c (omega (arith, g .below)))) (g .here))
-
-pub ruleset firsts = (needs, none-start, none-more, first-here, first-none)
+pub ruleset firsts = (needs, none-none, none-more, none-end, hit)

@@ -21,9 +21,9 @@ use Rattle.theory.specs.Walks.{Walk, last, step}
 use Rattle.theory.proofs.Sides.{Fit}
 use Rattle.theory.proofs.Neighbours.{beside-sym′}
 use Rattle.theory.proofs.Reach.{air-test, test-air, opening-test, test-opening, walk-air, in-box, found-cases, never, same-steps, known, later, least-walk, no-walk}
+use Rattle.grid.proofs.Steps.{cells-most}
 use Rattle.walks.specs.declared.Walked.{Walked}
 use Rattle.walks.specs.Search.{searched, markOf, deeper, lost, Roomy, Measured}
-use Rattle.walks.proofs.SearchCode.{cells-few}
 use Rattle.walks.proofs.SearchRight.{Distances, marks-right, rest-kept}
 
 module _ (s : Sides) (ls : List ℕ) where
@@ -134,12 +134,12 @@ module _ (s : Sides) (ls : List ℕ) where
 module _ (s : Sides) (ls room : List ℕ) (r : Roomy s ls room) where
   pub searched-marks : (c : ℕ) → c < cells s → getD (searched s ls room .room) c 0 ≡ markOf (getD (walk s ls) c Nowhere)
   unfolding searched
-  searched-marks = marks-right (cells s) (isAir ls) (isOpening ls) (around s) (δ s ls) (distances s ls (r .fit) (r .sized)) room (cells-few s (r .fit)) (r .long)
+  searched-marks = marks-right (cells s) (isAir ls) (isOpening ls) (around s) (δ s ls) (distances s ls (r .fit) (r .sized)) room (cells-most s (r .fit)) (r .long)
 
   -- and what lies behind the queue is as it was
   pub searched-rest : drop (cells s + cells s) (searched s ls room .room) ≡ drop (cells s + cells s) room
   unfolding searched
-  searched-rest = rest-kept (cells s) (isAir ls) (isOpening ls) (around s) (δ s ls) (distances s ls (r .fit) (r .sized)) room (cells-few s (r .fit)) (r .long)
+  searched-rest = rest-kept (cells s) (isAir ls) (isOpening ls) (around s) (δ s ls) (distances s ls (r .fit) (r .sized)) room (cells-most s (r .fit)) (r .long)
 
 -- ---- depth and the first sealed cell
 up-below : {A : Type 0} (f g : ℕ → A → A) (n : ℕ) (a : A) → ((c : ℕ) → c < n → (x : A) → f c x ≡ g c x) → up f n a ≡ up g n a
@@ -170,7 +170,7 @@ module _ (s : Sides) (ls marks : List ℕ) (right : (c : ℕ) → c < cells s �
 
 -- ---- so the code measures what it promises
 pub roomy-few : (s : Sides) (ls room : List ℕ) → Roomy s ls room → length ls ≤ 32768
-roomy-few s ls room r = omega (arith, r .sized, cells-few s (r .fit))
+roomy-few s ls room r = omega (arith, r .sized, cells-most s (r .fit))
 
 pub measured : (s : Sides) (ls room end : List ℕ) (d : ℕ) (f : Found) → Roomy s ls room → end ≡ searched s ls room .room → d ≡ up (deeper ls end) (length ls) 0
     → f ≡ first (lost ls end) (length ls) → Measured s ls room end (record { depth = d; sealed = f })

@@ -1,5 +1,6 @@
 -- `walks::deepest` meets its contract: after i turns the first i cells are looked at. Assumes nothing.
-use Rattle.walks.proofs.SearchCode.{Up, loops}
+use Rattle.laws.proofs.Loops.{Up}
+use Rattle.walks.proofs.SearchCode.{loops}
 use Prim.Native.Nat.{_≤_, _-_}
 use lib.ListN.{length}
 use Rattle.walks.specs.Search.{deeper}

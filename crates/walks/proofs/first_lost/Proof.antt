@@ -1,5 +1,6 @@
 -- `walks::first_lost` meets its contract: no cell before c is lost. Assumes nothing.
-use Rattle.walks.proofs.SearchCode.{None, firsts}
+use Rattle.theory.proofs.Firsts.{None}
+use Rattle.walks.proofs.SearchCode.{firsts}
 use Prim.Native.Nat.{_≤_, _-_}
 use lib.ListN.{length}
 use Rattle.walks.specs.Search.{lost}

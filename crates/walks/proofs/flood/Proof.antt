@@ -1,5 +1,6 @@
 -- `walks::flood` meets its contract: after i turns the queue is i turns on. Assumes nothing.
-use Rattle.walks.proofs.SearchCode.{Up, loops}
+use Rattle.laws.proofs.Loops.{Up}
+use Rattle.walks.proofs.SearchCode.{loops}
 use Prim.Native.Nat.{_≤_, _-_}
 use lib.ListN.{length}
 use mathlib.Core.Path.{_≡_}

@@ -1,7 +1,7 @@
 -- `levels::lists::air_list` meets its contract: the air cells below c stand in the room. Assumes nothing.
 use Prim.Native.Nat.{_≤_, _-_}
 use Rattle.method.specs.Cast.{isAir}
-use Rattle.levels.specs.Rooms.{chosen}
+use Rattle.laws.specs.Lists.{chosen}
 use Rattle.levels.specs.Lists.{Placed}
 use Rattle.levels.proofs.Chosen.{choosing}
 use Rattle.levels.proofs.lists.air_list.Statement.{statement}
