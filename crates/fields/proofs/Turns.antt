@@ -13,7 +13,7 @@ use Rattle.method.specs.Cast.{isAir}
 use Rattle.method.specs.Levels.{value}
 use Rattle.method.specs.Cycle.{applied}
 use Rattle.method.specs.Rounds.{direction}
-use Rattle.smooth.proofs.Turns.{air-yes, air-no}
+use Rattle.grid.proofs.Steps.{air-yes, air-no}
 use Rattle.fields.specs.Turns.{dotTurn, applyTurn}
 
 -- ---- the direction, by the number of rounds done
