@@ -60,10 +60,10 @@ pub short-by : (n room : ℕ) → ltb room n ≡ not (leb n room)
 short-by n room = ⊎-elim (λ h. rw (le-ltb room n h, le-leb n room h)) (λ h. rw (lt-ltb room n h, lt-leb n room h)) (le-or-lt n room)
 
 -- ---- 1 before 11
-pub sides-ruled : (s : Sides) (left : ℕ) (w v : Bool) (x y : Found) (p q o : Ruling) → w ≡ sidesFit s → x ≡ fault (not w) → p ≡ rulingBy 1 x
-    → v ≡ eqb left (5 * cells s) → y ≡ fault (not v) → q ≡ rulingBy 11 y → o ≡ firstOf p q → o ≡ sizeRuling s left
+pub sides-ruled : (s : Sides) (left : ℕ) (w v : Bool) (x y : Found) (p q o : Ruling) → o ≡ firstOf p q → p ≡ rulingBy 1 x → q ≡ rulingBy 11 y → x ≡ fault (not w) → y ≡ fault (not v)
+    → w ≡ sidesFit s → v ≡ eqb left (5 * cells s) → o ≡ sizeRuling s left
 unfolding sizeRuling
-sides-ruled s left w v x y p q o a b c d e f g =
+sides-ruled s left w v x y p q o g c f b e a d =
     g ∙ ap₂ firstOf (c ∙ ap (rulingBy 1) (b ∙ ap (λ t. fault (not t)) a)) (f ∙ ap (rulingBy 11) (e ∙ ap (λ t. fault (not t)) d))
 
 pub ruleset sizes = (needs, product-none, product-other, product-rest, plane-fits, body-by, sides-ruled)
