@@ -1,5 +1,5 @@
 -- `session::sizes::judge_sides` meets its contract. Assumes nothing.
-use Rattle.session.proofs.SizeLaws.{sizes}
+use Rattle.session.proofs.SizeLaws.{sizes, sides-ruled}
 use Rattle.session.proofs.sizes.judge_sides.Statement.{statement}
 use Rattle.session.proofs.sizes.judge_sides.Tie as tie
 
@@ -25,7 +25,7 @@ earlier-requires : tie.Need-earlier-requires
 earlier-requires c κs = search sizes
 
 returns : tie.Need-returns
-returns c = search sizes
+returns c = search sides-ruled
 
 pub judge-sides-spec : {M : Type 1} → statement M
 judge-sides-spec =
