@@ -41,26 +41,29 @@ answer-parts a = simp append-assoc
 ten-digits : (n : ℕ) → n < 2 ^ 32 → length (decimal n) ≤ 10
 ten-digits n h = most-digits 9 n (omega arith)
 
-module _ (a : Answer) (w : List ℕ) (i : ℕ) (r : i + 107 ≤ length w) (x : a .number < 2 ^ 32) (y : a .place < 2 ^ 32) (z : a .rounds < 2 ^ 32) where
-  first-short : length (firstThree a) ≤ 53
-  first-short =
-      omega (arith, three-length (text "answer=") (a .number) (text "place=") (a .place) (text "rounds=") (a .rounds), ten-digits (a .number) x, ten-digits (a .place) y, ten-digits (a .rounds) z)
+-- three lines with short keys
+module _ (a : List ℕ) (x : ℕ) (b : List ℕ) (y : ℕ) (c : List ℕ) (z : ℕ) (k : length a + length b + length c ≤ 21) (p : x < 2 ^ 32) (q : y < 2 ^ 32) (r : z < 2 ^ 32) where
+  short-three : length (threeLines a x b y c z) ≤ 54
+  short-three = omega (arith, three-length a x b y c z, ten-digits x p, ten-digits y q, ten-digits z r)
 
-  pub answer-first : i + length (firstThree a) ≤ length w
-  answer-first = omega (arith, first-short)
+  pub first-room : (w : List ℕ) (i : ℕ) → i + 108 ≤ length w → i + length (threeLines a x b y c z) ≤ length w
+  first-room w i h = omega (arith, short-three)
 
-  module _ (u : List ℕ) (j : ℕ) (p : Put (firstThree a) w i u j) (x′ : a .worst < 2 ^ 32) (y′ : a .interior < 2 ^ 32) (z′ : a .depth < 2 ^ 32) where
-    last-short : length (lastThree a) ≤ 54
-    last-short =
-        omega (arith, three-length (text "worst=") (a .worst) (text "interior=") (a .interior) (text "depth=") (a .depth), ten-digits (a .worst) x′, ten-digits (a .interior) y′, ten-digits (a .depth) z′)
+pub last-room : (w u : List ℕ) (i j : ℕ) (a : List ℕ) (x : ℕ) (b : List ℕ) (y : ℕ) (c : List ℕ) (z : ℕ) (a′ : List ℕ) (x′ : ℕ) (b′ : List ℕ) (y′ : ℕ) (c′ : List ℕ) (z′ : ℕ)
+    → Put (threeLines a x b y c z) w i u j → length a + length b + length c ≤ 21 → x < 2 ^ 32 → y < 2 ^ 32 → z < 2 ^ 32 → i + 108 ≤ length w
+    → length a′ + length b′ + length c′ ≤ 21 → x′ < 2 ^ 32 → y′ < 2 ^ 32 → z′ < 2 ^ 32
+    → j + length (threeLines a′ x′ b′ y′ c′ z′) ≤ length u
+last-room w u i j a x b y c z a′ x′ b′ y′ c′ z′ g k p q r h k′ p′ q′ r′ =
+    omega (arith, short-three a x b y c z k p q r, short-three a′ x′ b′ y′ c′ z′ k′ p′ q′ r′, g .next, put-length g)
 
-    pub answer-last : j + length (lastThree a) ≤ length u
-    answer-last = omega (arith, first-short, last-short, p .next, put-length p)
+module _ (a : Answer) (x : a .number < 2 ^ 32) (y : a .place < 2 ^ 32) (z : a .rounds < 2 ^ 32) (x′ : a .worst < 2 ^ 32) (y′ : a .interior < 2 ^ 32) (z′ : a .depth < 2 ^ 32) where
+  pub answer-put : (w u d : List ℕ) (i j m : ℕ) → Put (firstThree a) w i u j → Put (lastThree a) u j d m → PutShort 108 (answerLines a) w i d m
+  answer-put w u d i j m p q = record {
+    puts = rw (answer-parts a) (put-then p q);
+    short = omega (arith, p .next, q .next, short-three (text "answer=") (a .number) (text "place=") (a .place) (text "rounds=") (a .rounds) (omega arith) x y z, short-three (text "worst=") (a .worst) (text "interior=") (a .interior) (text "depth=") (a .depth) (omega arith) x′ y′ z′);
+  }
 
-    pub answer-put : (d : List ℕ) (m : ℕ) → Put (lastThree a) u j d m → PutShort 107 (answerLines a) w i d m
-    answer-put d m q = record { puts = rw (answer-parts a) (put-then p q); short = omega (arith, first-short, last-short, p .next, q .next) }
-
-pub ruleset answers = (needs, answer-first, answer-last, answer-put)
+pub ruleset answers = (needs, first-room, last-room, answer-put)
 
 -- ---- the size of a pressure, as the code reads it from its bits
 module _ (p : ℤ) (f : SFits w64 p) where
@@ -113,11 +116,8 @@ module _ (p : ℤ) (f : SFits w64 p) (n : ℕ) (e : n ≡ natAbs (toZ w64 (ofZ w
   few : length (decimal n) ≤ 19
   few = most-digits 18 n (omega (arith, size-is, size-most p (f .sfits)))
 
-  pub minus-room : i + 26 ≤ length w → i + length (line (text "cell=-") (decimal n)) ≤ length w
-  minus-room r = omega (arith, line-length (text "cell=-") n, few)
-
-  pub plain-room : i + 26 ≤ length w → i + length (line (text "cell=") (decimal n)) ≤ length w
-  plain-room r = omega (arith, line-length (text "cell=") n, few)
+  pub cell-room : (key : List ℕ) → length key ≤ 6 → i + 26 ≤ length w → i + length (line key (decimal n)) ≤ length w
+  cell-room key k r = omega (arith, line-length key n, few)
 
   module _ (u : List ℕ) (j : ℕ) where
     pub minus-put : ltZ (toZ w64 (ofZ w64 p)) (pos 0) ≡ true → Put (line (text "cell=-") (decimal n)) w i u j → PutShort 26 (cellLine p) w i u j
@@ -140,7 +140,7 @@ module _ (p : ℤ) (f : SFits w64 p) (n : ℕ) (e : n ≡ natAbs (toZ w64 (ofZ w
           short = omega (arith, q .next, line-length (text "cell=") n, few);
         }
 
-pub ruleset cells = (needs, minus-room, plain-room, minus-put, plain-put)
+pub ruleset cells = (needs, cell-room, minus-put, plain-put)
 
 -- ---- i lines are put
 pub record Celled (ps : List ℤ) (old : List ℕ) (at i : ℕ) (new : List ℕ) (r : ℕ) : Type 0 where
@@ -176,14 +176,14 @@ pub ruleset lists = (needs, celled-none, celled-more, celled-all, celled-room, c
 
 -- ---- the whole print
 module _ (a : Answer) (ps : List ℤ) (w u : List ℕ) (j : ℕ) where
-  pub show-room : 107 + 26 * length ps ≤ length w → PutShort 107 (answerLines a) w 0 u j → j + 26 * length ps ≤ length u
+  pub show-room : 108 + 26 * length ps ≤ length w → PutShort 108 (answerLines a) w 0 u j → j + 26 * length ps ≤ length u
   show-room r p = omega (arith, p .short, put-length (p .puts))
 
-  pub show-accepted : (d : List ℕ) (m : ℕ) → a .number ≡ 0 → PutShort 107 (answerLines a) w 0 u j → Put (flatMap cellLine ps) u j d m → Put (print a ps) w 0 d m
+  pub show-accepted : (d : List ℕ) (m : ℕ) → a .number ≡ 0 → PutShort 108 (answerLines a) w 0 u j → Put (flatMap cellLine ps) u j d m → Put (print a ps) w 0 d m
   unfolding print
   show-accepted d m e p q = rw (print, e) (put-then (p .puts) q)
 
-  pub show-other : (a .number ≡ 0 → ⊥) → PutShort 107 (answerLines a) w 0 u j → Put (print a ps) w 0 u j
+  pub show-other : (a .number ≡ 0 → ⊥) → PutShort 108 (answerLines a) w 0 u j → Put (print a ps) w 0 u j
   unfolding print
   show-other e p = go (a .number) refl
     where

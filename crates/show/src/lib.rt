@@ -13,8 +13,8 @@ use writes::put_three;
 
 // Puts the six lines of an answer.
 fn put_answer(output: &mut [u8], at: usize, a: Answer) -> usize
-    requires { ⌜ at + 107 ≤ length (now output) ⌝ }
-    ensures { λ r. ⌜ PutShort 107 (answerLines a) (now (output .entry)) at (now (output .exit)) r ⌝ }
+    requires { ⌜ at + 108 ≤ length (now output) ⌝ }
+    ensures { λ r. ⌜ PutShort 108 (answerLines a) (now (output .entry)) at (now (output .exit)) r ⌝ }
 {
     let next = put_three(
         output,
@@ -75,7 +75,7 @@ fn put_cells(output: &mut [u8], at: usize, pressures: &[i64]) -> usize
 
 // Puts the whole print at the front, and answers how many bytes it has.
 pub fn show(answer: Answer, pressures: &[i64], output: &mut [u8]) -> usize
-    requires { ⌜ 107 + 26 * length (now pressures) ≤ length (now output) ⌝ }
+    requires { ⌜ 108 + 26 * length (now pressures) ≤ length (now output) ⌝ }
     ensures { λ r. ⌜ Put (print answer (now (pressures .entry))) (now (output .entry)) 0 (now (output .exit)) r ⌝ }
 {
     let next = put_answer(output, 0, answer);
