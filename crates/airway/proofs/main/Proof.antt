@@ -1,56 +1,43 @@
-use borrow.Author.Needs.{needs}
+-- `airway::main` meets its contract. Assumes nothing.
+use Rattle.airway.proofs.Laws.{rooms}
 use Rattle.airway.proofs.main.Statement.{statement}
 use Rattle.airway.proofs.main.Tie as tie
-use Rattle.airway.proofs.main.Reads as reads
-use Rattle.airway.proofs.main.Lts as lts
-use Rattle.io.proofs.read_full.Reads as read-full-reads
-use Rattle.io.proofs.write_all.Reads as write-all-reads
-use Rattle.respond.proofs.respond.Reads as respond-reads
 
 slice-aggregate-read-full : tie.Need-slice-aggregate-read-full
-slice-aggregate-read-full c = search needs
+slice-aggregate-read-full c = search rooms
 
 read-full-requires : tie.Need-read-full-requires
-read-full-requires c κs = search needs
+read-full-requires c κs = search rooms
 
 array-share-prefix-input : tie.Need-array-share-prefix-input
-array-share-prefix-input c = search needs
+array-share-prefix-input c = search rooms
 
-slice-aggregate-respond : tie.Need-slice-aggregate-respond
-slice-aggregate-respond c = search needs
+slice-aggregate-answer : tie.Need-slice-aggregate-answer
+slice-aggregate-answer c = search rooms
 
-slice-aggregate-respond-2 : tie.Need-slice-aggregate-respond-2
-slice-aggregate-respond-2 c = search needs
+slice-aggregate-answer-2 : tie.Need-slice-aggregate-answer-2
+slice-aggregate-answer-2 c = search rooms
 
-slice-aggregate-respond-3 : tie.Need-slice-aggregate-respond-3
-slice-aggregate-respond-3 c = search needs
+slice-aggregate-answer-3 : tie.Need-slice-aggregate-answer-3
+slice-aggregate-answer-3 c = search rooms
 
-slice-aggregate-respond-4 : tie.Need-slice-aggregate-respond-4
-slice-aggregate-respond-4 c = search needs
+slice-aggregate-answer-4 : tie.Need-slice-aggregate-answer-4
+slice-aggregate-answer-4 c = search rooms
 
-slice-aggregate-respond-5 : tie.Need-slice-aggregate-respond-5
-slice-aggregate-respond-5 c = search needs
+slice-aggregate-answer-5 : tie.Need-slice-aggregate-answer-5
+slice-aggregate-answer-5 c = search rooms
 
-slice-aggregate-respond-6 : tie.Need-slice-aggregate-respond-6
-slice-aggregate-respond-6 c = search needs
+slice-aggregate-answer-6 : tie.Need-slice-aggregate-answer-6
+slice-aggregate-answer-6 c = search rooms
 
-slice-aggregate-respond-7 : tie.Need-slice-aggregate-respond-7
-slice-aggregate-respond-7 c = search needs
+slice-aggregate-answer-7 : tie.Need-slice-aggregate-answer-7
+slice-aggregate-answer-7 c = search rooms
 
-respond-requires : tie.Need-respond-requires
-respond-requires c κs = ?
-
-array-share-prefix-output : tie.Need-array-share-prefix-output
-array-share-prefix-output c = search needs
-
-slice-aggregate-write-all : tie.Need-slice-aggregate-write-all
-slice-aggregate-write-all c = ?
-
-write-all-requires : tie.Need-write-all-requires
-write-all-requires c κs = search needs
+answer-requires : tie.Need-answer-requires
+answer-requires c κs = search rooms
 
 returns : tie.Need-returns
-returns c = search needs
+returns c = search rooms
 
 pub main-spec : {M : Type 1} → statement M
 main-spec =
@@ -59,15 +46,12 @@ main-spec =
     slice-aggregate-read-full
     read-full-requires
     array-share-prefix-input
-    slice-aggregate-respond
-    slice-aggregate-respond-2
-    slice-aggregate-respond-3
-    slice-aggregate-respond-4
-    slice-aggregate-respond-5
-    slice-aggregate-respond-6
-    slice-aggregate-respond-7
-    respond-requires
-    array-share-prefix-output
-    slice-aggregate-write-all
-    write-all-requires
+    slice-aggregate-answer
+    slice-aggregate-answer-2
+    slice-aggregate-answer-3
+    slice-aggregate-answer-4
+    slice-aggregate-answer-5
+    slice-aggregate-answer-6
+    slice-aggregate-answer-7
+    answer-requires
     returns)
