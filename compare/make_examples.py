@@ -1,8 +1,5 @@
 #!/usr/bin/env python3
-"""Writes the sample sessions of examples/: document 01's own example, and a small cast of a nose and throat.
-
-    make_examples.py [--check]    with --check: says whether the files are what would be written
-"""
+"""Writes the sample sessions of examples/: document 01's own example, and a small cast of a nose and throat."""
 import os
 import sys
 
@@ -39,20 +36,21 @@ def example():
     return generate.session_bytes(3, 1, 1, "big", 0, 1, 5, [1, 0, 1], [10, 0, 20])
 
 
-def main():
-    status = 0
+def sessions():
     for name, session in (("example", example()), ("throat", throat())):
-        path = os.path.join(FOLDER, name + ".session")
-        if sys.argv[1:] == ["--check"]:
-            with open(path, "rb") as there:
-                if there.read() != session:
-                    print(f"{path} is not what make_examples.py writes")
-                    status = 1
-        else:
-            with open(path, "wb") as there:
-                there.write(session)
-    return status
+        yield os.path.join(FOLDER, name + ".session"), session
+
+
+def differing():
+    """The files that are not what would be written."""
+    return [path for path, session in sessions() if not os.path.exists(path) or open(path, "rb").read() != session]
+
+
+def main():
+    for path, session in sessions():
+        with open(path, "wb") as file:
+            file.write(session)
 
 
 if __name__ == "__main__":
-    sys.exit(main())
+    main()
