@@ -15,11 +15,11 @@ use Rattle.method.specs.Form.{decimal, line, orderWord, headerWritten, valueWri
 use Rattle.writes.specs.Lengths.{threeLines, ThreeDigits, OrderLength, HeaderLength}
 use Rattle.writes.proofs.PartLaws.{sideLines, settingLines, header-parts, values-length}
 
-line-length : (key : List ℕ) (n : ℕ) → length (line key (decimal n)) ≡ length key + length (decimal n) + 1
+pub line-length : (key : List ℕ) (n : ℕ) → length (line key (decimal n)) ≡ length key + length (decimal n) + 1
 unfolding line
 line-length key n = length-append (key ++ decimal n) (text "\n") ∙ ap (λ k. k + 1) (length-append key (decimal n))
 
-three-length : (a : List ℕ) (x : ℕ) (b : List ℕ) (y : ℕ) (c : List ℕ) (z : ℕ)
+pub three-length : (a : List ℕ) (x : ℕ) (b : List ℕ) (y : ℕ) (c : List ℕ) (z : ℕ)
     → length (threeLines a x b y c z) ≡ length a + length b + length c + 3 + (length (decimal x) + length (decimal y) + length (decimal z))
 unfolding threeLines
 three-length a x b y c z =

@@ -116,12 +116,12 @@ unfolding flatMap
 values-length o [] = omega arith
 values-length o (v ∷ vs) = length-append (valueWritten o v) (flatMap (valueWritten o) vs) ∙ omega (arith, value-length o v, values-length o vs)
 
-flat-append : (f : ℤ → List ℕ) (xs ys : List ℤ) → flatMap f (xs ++ ys) ≡ flatMap f xs ++ flatMap f ys
+pub flat-append : (f : ℤ → List ℕ) (xs ys : List ℤ) → flatMap f (xs ++ ys) ≡ flatMap f xs ++ flatMap f ys
 unfolding flatMap
 flat-append f [] ys = refl
 flat-append f (x ∷ xs) ys = ap (λ l. f x ++ l) (flat-append f xs ys) ∙ sym (append-assoc (f x) (flatMap f xs) (flatMap f ys))
 
-flat-one : (f : ℤ → List ℕ) (x : ℤ) → flatMap f (x ∷ []) ≡ f x
+pub flat-one : (f : ℤ → List ℕ) (x : ℤ) → flatMap f (x ∷ []) ≡ f x
 unfolding flatMap
 flat-one f x = append-nil (f x)
 

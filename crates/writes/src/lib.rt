@@ -28,7 +28,7 @@ fn put_order(output: &mut [u8], at: usize, order: Order) -> usize
 }
 
 // Puts three lines of numbers.
-fn put_three(
+pub fn put_three(
     output: &mut [u8],
     at: usize,
     a: &[u8],
