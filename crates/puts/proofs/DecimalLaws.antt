@@ -27,7 +27,7 @@ length-large : (n : ℕ) → 10 ≤ n → length (decimal n) ≡ length (decimal
 length-large n h = ap length (decimal-large n h) ∙ length-append (decimal (n / 10)) ((48 + n % 10) ∷ [])
 
 -- a number below ten to the k has at most k digits, where k is not zero
-most-digits : (k n : ℕ) → n < 10 ^ suc k → length (decimal n) ≤ suc k
+pub most-digits : (k n : ℕ) → n < 10 ^ suc k → length (decimal n) ≤ suc k
 most-digits zero n h = omega (arith, length-small n h)
 most-digits (suc k) n h = ⊎-elim
     (λ l. omega (arith, length-large n l, most-digits k (n / 10) (tenth n (10 ^ suc k) (rw (pow-succ' 10 (suc k)) at h))))

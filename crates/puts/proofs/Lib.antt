@@ -1,5 +1,4 @@
--- Laws that the proofs of several functions cite.
-pub mod DecimalLaws
+-- Laws that the proofs of several functions cite, and of parts put one after the other.
 pub mod PutLaws
-pub mod LengthLaws
+pub mod DecimalLaws
 pub mod Unique

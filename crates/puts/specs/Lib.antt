@@ -1,3 +1,2 @@
 -- What the contracts of this crate cite, beside the meaning in method.
 pub mod Puts
-pub mod Lengths

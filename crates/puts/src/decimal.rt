@@ -6,7 +6,7 @@ ghost use Rattle.method.specs.Form.{decimal};
 ghost use Rattle.puts.specs.Puts.{Put, DigitsOf};
 
 // How many digits a number has.
-pub(crate) fn digits_of(n: u64) -> usize
+pub fn digits_of(n: u64) -> usize
     ensures { λ r. ⌜ DigitsOf n r ⌝ }
 {
     let mut k = 1;

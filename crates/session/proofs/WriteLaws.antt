@@ -20,7 +20,7 @@ use Rattle.method.specs.Answers.{check, fault, passed, refused, verdict, refusa
 use Rattle.method.specs.Calls.{Writing, bytesOf, writerLengthsFit, writerChecks, writing}
 use Rattle.checks.specs.Faults.{cellRuling}
 use Rattle.puts.specs.Puts.{Put}
-use Rattle.puts.specs.Lengths.{HeaderLength}
+use Rattle.writes.specs.Lengths.{HeaderLength}
 use Rattle.session.specs.Writes.{offered, WriteOf, RoomIf, RuledOf}
 use Rattle.checks.specs.declared.Ruling.{Ruling}
 use Rattle.checks.specs.declared.Ruling.the-variants.{Refused, Allowed}
@@ -28,7 +28,7 @@ use Rattle.theory.proofs.Sides.{Fit, fit}
 use Rattle.checks.proofs.RuleLaws.{fails-at, passes-on, verdict-agree, ruling-none, last-ruling, fault-no, fault-yes}
 use Rattle.checks.proofs.CheckLaws.{cells-ruled}
 use Rattle.checks.specs.Rulings.{rulingOf}
-use Rattle.puts.proofs.LengthLaws.{written-length}
+use Rattle.writes.proofs.LengthLaws.{written-length}
 
 -- ---- the checks before those of the cells
 module _ (s : Sides) (o : Order) (t : Settings) (ls : List ℕ) (vs : List ℤ) (room : ℕ) where

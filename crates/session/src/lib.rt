@@ -17,9 +17,9 @@ use method::Answer;
 use method::Order;
 use method::Settings;
 use method::Sides;
-use puts::put_session;
 use words::store_values;
 use writer::judge_cast;
+use writes::put_session;
 
 // A session, judged: number and place of the first check that fails, or what the header names.
 enum Judged {

@@ -8,7 +8,7 @@ use grid::place::cell_count;
 use method::Order;
 use method::Settings;
 use method::Sides;
-use puts::length::header_length;
+use writes::length::header_length;
 
 // Checks 1, 3 and 2, and then those of the cells. The output has room for so many bytes.
 pub(crate) fn judge_cast(

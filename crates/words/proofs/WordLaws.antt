@@ -60,14 +60,14 @@ module _ (w : ℕ) (h : 2147483648 ≤ w) (f : Fits w32 w) where
   signed-high = toZ-ofZ signed-fits ∙ from-high
 
 -- ---- back to a word
-one-minus-neg : (n : ℕ) → negsuc 0 -ℤ negsuc n ≡ pos n
+pub one-minus-neg : (n : ℕ) → negsuc 0 -ℤ negsuc n ≡ pos n
 one-minus-neg n = rw (le-ltb (suc n) 1 (omega arith)) (ap pos (omega arith))
 
-negative : (v : ℤ) → ltZ v (pos 0) ≡ true → v ≡ negsuc (mag v)
+pub negative : (v : ℤ) → ltZ v (pos 0) ≡ true → v ≡ negsuc (mag v)
 negative (pos n) e = absurd (omega (arith, ltb-true n 0 e))
 negative (negsuc n) e = refl
 
-positive : (v : ℤ) → ltZ v (pos 0) ≡ false → v ≡ pos (mag v)
+pub positive : (v : ℤ) → ltZ v (pos 0) ≡ false → v ≡ pos (mag v)
 positive (pos n) e = refl
 positive (negsuc n) e = absurd (true≢false e)
 

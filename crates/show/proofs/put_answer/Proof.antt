@@ -1,0 +1,49 @@
+-- `show::put_answer` meets its contract. Assumes nothing.
+use Rattle.show.proofs.ShowLaws.{answers}
+use Rattle.show.proofs.put_answer.Statement.{statement}
+use Rattle.show.proofs.put_answer.Tie as tie
+
+slice-aggregate-put-three : tie.Need-slice-aggregate-put-three
+slice-aggregate-put-three c = search answers
+
+slice-aggregate-put-three-2 : tie.Need-slice-aggregate-put-three-2
+slice-aggregate-put-three-2 c = search answers
+
+slice-aggregate-put-three-3 : tie.Need-slice-aggregate-put-three-3
+slice-aggregate-put-three-3 c = search answers
+
+put-three-requires : tie.Need-put-three-requires
+put-three-requires c κs = search answers
+
+slice-aggregate-put-three-4 : tie.Need-slice-aggregate-put-three-4
+slice-aggregate-put-three-4 c = search answers
+
+slice-aggregate-put-three-5 : tie.Need-slice-aggregate-put-three-5
+slice-aggregate-put-three-5 c = search answers
+
+slice-aggregate-put-three-6 : tie.Need-slice-aggregate-put-three-6
+slice-aggregate-put-three-6 c = search answers
+
+put-three-requires-2 : tie.Need-put-three-requires-2
+put-three-requires-2 c κs = search answers
+
+same-length : tie.Need-same-length
+same-length c = search answers
+
+returns : tie.Need-returns
+returns c = search answers
+
+pub put-answer-spec : {M : Type 1} → statement M
+put-answer-spec =
+    tie.close
+    (tie.spec
+    slice-aggregate-put-three
+    slice-aggregate-put-three-2
+    slice-aggregate-put-three-3
+    put-three-requires
+    slice-aggregate-put-three-4
+    slice-aggregate-put-three-5
+    slice-aggregate-put-three-6
+    put-three-requires-2
+    same-length
+    returns)
