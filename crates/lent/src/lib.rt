@@ -14,7 +14,7 @@ const FLOAT: f64 = 7.25;
 
 const WORD: u32 = 2779096485;
 
-const PRESSURE: i64 = -9876543210123;
+pub const PRESSURE: i64 = -9876543210123;
 
 pub fn fill_bytes(room: &mut [u8])
     ensures { λ _. ⌜ now (room .exit) ≡ replicate (length (now (room .entry))) 165 ⌝ }
