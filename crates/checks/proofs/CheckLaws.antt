@@ -78,10 +78,10 @@ value-cell ls vs c r h m q =
 pub range-by : (l : ℕ) (v : ℤ) (a b : ℕ) → SFits w32 v → a ≡ widest l → b ≡ natAbs (toZ w32 (ofZ w32 v)) → ltb a b ≡ ltb (widest l) (natAbs v)
 range-by l v a b s e f = ap₂ ltb e (f ∙ ap natAbs (toZ-ofZ s))
 
-pub cells-found : (ls : List ℕ) (vs : List ℤ) (n : ℕ) (x y : Found) (p q o : Ruling) → x ≡ first (badLabelAt ls) n → p ≡ rulingBy 4 x
-    → y ≡ first (badValueAt ls vs) n → q ≡ rulingBy 5 y → o ≡ firstOf p q → o ≡ cellRuling ls vs n
+pub cells-found : (ls : List ℕ) (vs : List ℤ) (n : ℕ) (x y : Found) (p q o : Ruling) → o ≡ firstOf p q → p ≡ rulingBy 4 x → q ≡ rulingBy 5 y
+    → x ≡ first (badLabelAt ls) n → y ≡ first (badValueAt ls vs) n → o ≡ cellRuling ls vs n
 unfolding cellRuling
-cells-found ls vs n x y p q o a b c d e = e ∙ ap₂ firstOf (b ∙ ap (rulingBy 4) a) (d ∙ ap (rulingBy 5) c)
+cells-found ls vs n x y p q o e b d a c = e ∙ ap₂ firstOf (b ∙ ap (rulingBy 4) a) (d ∙ ap (rulingBy 5) c)
 
 pub ruleset checked = (needs, between-low, between-rest, sides-all, settings-all, widest-air, widest-opening, widest-wall, range-by, label-cell, value-cell, cells-found)
 

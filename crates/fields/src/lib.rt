@@ -79,12 +79,13 @@ fn aim_at(room: &mut [f64], labels: &[u8], done: u32, beta: f64, c: usize)
     ensures { λ _. ⌜ now (room .exit) ≡ aimTurn (now (labels .entry)) done beta c (now (room .entry)) ⌝ }
 {
     let n = labels.len();
+    let at = n + c;
     if labels[c] == 0 {
         let z = room[2 * n + c];
-        let p = room[n + c];
-        room[n + c] = direction_of(done, beta, z, p);
+        let p = room[at];
+        room[at] = direction_of(done, beta, z, p);
     } else {
-        room[n + c] = 0.0;
+        room[at] = 0.0;
     }
 }
 
@@ -133,12 +134,13 @@ fn reduce_at(room: &mut [f64], labels: &[u8], alpha: f64, c: usize)
     ensures { λ _. ⌜ now (room .exit) ≡ reduceTurn (now (labels .entry)) alpha c (now (room .entry)) ⌝ }
 {
     let n = labels.len();
+    let at = 3 * n + c;
     if labels[c] == 0 {
-        let r = room[3 * n + c];
+        let r = room[at];
         let t = room[4 * n + c];
-        room[3 * n + c] = r - alpha * t;
+        room[at] = r - alpha * t;
     } else {
-        room[3 * n + c] = 0.0;
+        room[at] = 0.0;
     }
 }
 
@@ -160,11 +162,11 @@ fn load_at(room: &mut [f64], labels: &[u8], values: &[i32], g: method::Sides, c:
     requires { ⌜ (length (now values) ≡ cells g) × (c < cells g) ⌝ }
     ensures { λ _. ⌜ now (room .exit) ≡ loadTurn g (now (labels .entry)) (now (values .entry)) c (now (room .entry)) ⌝ }
 {
-    let n = labels.len();
+    let r = 3 * labels.len() + c;
     if labels[c] == 0 {
-        room[3 * n + c] = sources::right_at(labels, values, g, c);
+        room[r] = sources::right_at(labels, values, g, c);
     } else {
-        room[3 * n + c] = 0.0;
+        room[r] = 0.0;
     }
 }
 

@@ -243,8 +243,8 @@ module _ (key l : List ℕ) where
   unfolding numberLine lineOf taken leftIf
   line-no-key r s e = record { is = rw (numberLine, s .is, e); within = omega arith }
 
-  module _ (word end : List ℕ) (n : ℕ) (r q p : Bool) (s : Starts key l r) (e : r ≡ true) (w : word ≡ drop (length key) l) (d : n ≡ length (digits word))
-      (x : end ≡ drop n word) (f : Starts (text "\n") end q) where
+  module _ (word end : List ℕ) (n : ℕ) (r q p : Bool) (f : Starts (text "\n") end q) (s : Starts key l r) (e : r ≡ true) (x : end ≡ drop n word)
+      (w : word ≡ drop (length key) l) (d : n ≡ length (digits word)) where
     known : numberLine key l ≡ closed (digits word) (leftIf q 1 end)
     unfolding numberLine leftIf
     known = (rw (numberLine, s .is, e, ← w, ← d, ← x)) ∙ ap (closed (digits word)) (f .is)

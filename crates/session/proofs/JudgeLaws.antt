@@ -68,11 +68,11 @@ module _ (bytes : List ℕ) (h : Header) (n : ℕ) (z : Sized bytes h n) where
       ap (λ H. badValue (H .sides) (labelsIn H) (valuesIn H)) (z .is) ∙ value-fault (named bytes h) n (z .cells) (omega (arith, z .long))
       ∙ ap (λ l. first (badValueIn l n (h .order)) n) (sym b)
 
-  pub content-ruled : (w : Bool) (body : List ℕ) (x y z : Found) (p q r i o : Ruling) → w ≡ settingsFit (h .settings) → x ≡ fault (not w) → p ≡ rulingBy 3 x
-      → body ≡ drop (h .start) bytes → y ≡ first (badLabelAt body) n → q ≡ rulingBy 4 y → z ≡ first (badValueIn body n (h .order)) n → r ≡ rulingBy 5 z
-      → i ≡ firstOf q r → o ≡ firstOf p i → verdict contentChecks (asked bytes 0) ≡ rulingOf o
+  pub content-ruled : (w : Bool) (body : List ℕ) (x y z : Found) (p q r i o : Ruling) → o ≡ firstOf p i → i ≡ firstOf q r → p ≡ rulingBy 3 x → q ≡ rulingBy 4 y → r ≡ rulingBy 5 z
+      → x ≡ fault (not w) → w ≡ settingsFit (h .settings) → body ≡ drop (h .start) bytes → y ≡ first (badLabelAt body) n → z ≡ first (badValueIn body n (h .order)) n
+      → verdict contentChecks (asked bytes 0) ≡ rulingOf o
   unfolding contentChecks castIn
-  content-ruled w body x y z p q r i o ew ex ep b ey eq ez er ei eo =
+  content-ruled w body x y z p q r i o eo ei ep eq er ex ew b ey ez =
       ruling-more _ _ (asked bytes 0) x i (ap (λ t. fault (not t)) (settings-of ∙ sym ew) ∙ sym ex)
       (ruling-more _ _ (asked bytes 0) y r (labels-of body b ∙ sym ey) (ruling-last _ (asked bytes 0) z (values-of body b ∙ sym ez) ∙ ap rulingOf (sym er))
       ∙ ap rulingOf (ap (λ s. firstOf s r) (sym eq) ∙ sym ei))
@@ -153,7 +153,7 @@ module _ (bytes : List ℕ) (room : ℕ) (h : Header) (z : Bodied bytes h) where
     pub bodied-sized : Sized bytes h n
     bodied-sized = rw c (z .sized)
 
-    module _ (x : Found) (p q o : Ruling) (ex : x ≡ fault (not (leb n room))) (ep : p ≡ rulingBy 2 x) (eq : verdict contentChecks (asked bytes 0) ≡ rulingOf q) (eo : o ≡ firstOf p q) where
+    module _ (x : Found) (p q o : Ruling) (eo : o ≡ firstOf p q) (ep : p ≡ rulingBy 2 x) (ex : x ≡ fault (not (leb n room))) (eq : verdict contentChecks (asked bytes 0) ≡ rulingOf q) where
       short : roomCheck .fails (asked bytes room) ≡ x
       unfolding roomCheck
       short =

@@ -60,10 +60,12 @@ pub short-by : (n room : ℕ) → ltb room n ≡ not (leb n room)
 short-by n room = ⊎-elim (λ h. rw (le-ltb room n h, le-leb n room h)) (λ h. rw (lt-ltb room n h, lt-leb n room h)) (le-or-lt n room)
 
 -- ---- 1 before 11
-pub sides-ruled : (s : Sides) (left : ℕ) (w v : Bool) (x y : Found) (p q o : Ruling) → w ≡ sidesFit s → x ≡ fault (not w) → p ≡ rulingBy 1 x
-    → v ≡ eqb left (5 * cells s) → y ≡ fault (not v) → q ≡ rulingBy 11 y → o ≡ firstOf p q → o ≡ sizeRuling s left
-unfolding sizeRuling
-sides-ruled s left w v x y p q o a b c d e f g =
-    g ∙ ap₂ firstOf (c ∙ ap (rulingBy 1) (b ∙ ap (λ t. fault (not t)) a)) (f ∙ ap (rulingBy 11) (e ∙ ap (λ t. fault (not t)) d))
+pub ruled-unless : (k : ℕ) (b w : Bool) (x : Found) (p : Ruling) → p ≡ rulingBy k x → x ≡ fault (not w) → w ≡ b → p ≡ rulingBy k (fault (not b))
+ruled-unless k b w x p c e a = c ∙ ap (rulingBy k) (e ∙ ap (λ t. fault (not t)) a)
 
-pub ruleset sizes = (needs, product-none, product-other, product-rest, plane-fits, body-by, sides-ruled)
+pub sides-ruled : (s : Sides) (left : ℕ) (p q o : Ruling) → o ≡ firstOf p q → p ≡ rulingBy 1 (fault (not (sidesFit s))) → q ≡ rulingBy 11 (fault (not (eqb left (5 * cells s))))
+    → o ≡ sizeRuling s left
+unfolding sizeRuling
+sides-ruled s left p q o g a b = g ∙ ap₂ firstOf a b
+
+pub ruleset sizes = (needs, product-none, product-other, product-rest, plane-fits, body-by, ruled-unless, sides-ruled)

@@ -2,7 +2,10 @@
 ghost use mathlib.Core.Path.{_≡_};
 ghost use Prim.Native.Nat.{_*_};
 ghost use lib.Dec.{eqb};
-ghost use Rattle.method.specs.Cast.{cells};
+ghost use mathlib.Core.Bool.{not};
+ghost use Rattle.method.specs.Cast.{cells, sidesFit};
+ghost use Rattle.method.specs.Answers.{fault};
+ghost use Rattle.checks.specs.Rulings.{rulingBy};
 ghost use Rattle.session.specs.Reads.{sizeRuling};
 use checks::Ruling;
 use checks::cast::sides_fit;
@@ -34,11 +37,25 @@ fn body_fits(sides: Sides, left: usize) -> bool
     is_product(left, 5 * nx, ny * nz)
 }
 
+// Check 1.
+fn judge_first(sides: Sides) -> Ruling
+    ensures { λ r. ⌜ r ≡ rulingBy 1 (fault (not (sidesFit sides))) ⌝ }
+{
+    ruled(1, fault_unless(sides_fit(sides)))
+}
+
+// Check 11, of how many bytes the body has.
+fn judge_eleventh(sides: Sides, left: usize) -> Ruling
+    ensures { λ r. ⌜ r ≡ rulingBy 11 (fault (not (eqb left (5 * cells sides)))) ⌝ }
+{
+    ruled(11, fault_unless(body_fits(sides, left)))
+}
+
 // Checks 1 and 11, of the sides and how many bytes the body has.
 pub(crate) fn judge_sides(sides: Sides, left: usize) -> Ruling
     ensures { λ r. ⌜ r ≡ sizeRuling sides left ⌝ }
 {
-    let first = ruled(1, fault_unless(sides_fit(sides)));
-    let eleventh = ruled(11, fault_unless(body_fits(sides, left)));
+    let first = judge_first(sides);
+    let eleventh = judge_eleventh(sides, left);
     earlier(first, eleventh)
 }

@@ -1,2 +1,6 @@
 -- What the proofs of several functions cite.
 pub mod Clears
+pub mod Judging
+pub mod Preparing
+pub mod Working
+pub mod Solving

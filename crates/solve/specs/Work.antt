@@ -7,11 +7,13 @@ use lib.IntN.{ℤ}
 use Rattle.method.specs.declared.Sides.{Sides}
 use Rattle.method.specs.declared.Settings.{Settings}
 use Rattle.method.specs.declared.Answer.{Answer}
-use Rattle.method.specs.Cast.{Cast, cells, interior}
+use Rattle.method.specs.declared.Found.the-variants.{Nowhere}
+use Rattle.method.specs.Cast.{Cast, cells, labelAt, interior, sealed}
 use Rattle.method.specs.Answers.{Verdict, passed, refused, verdict, refusal, byteNeed, floatNeed, wordNeed}
 use Rattle.method.specs.Rounds.{End, solved, failed, start, ending}
 use Rattle.method.specs.Rounds as Rounds
 use Rattle.method.specs.Calls.{Asked, Solved, checksFrom7, handedBack, ended}
+use Rattle.theory.specs.Walks.{Walk}
 use Rattle.theory.specs.Levels.{airBefore}
 use Rattle.theory.proofs.Sides.{Fit}
 use Rattle.cycle.specs.Rooms.{Prepared}
@@ -64,7 +66,9 @@ pub record Checked (g : Sides) (ls : List ℕ) (vs : List ℤ) (t : Settings) (p
   pub levels-most : t .levels ≤ 6
   pub tolerance : t .tolerance ≤ 1000000
   pub limit : t .rounds ≤ 1000
-  pub air : 0 < interior g ls
+  pub reached : sealed g ls ≡ Nowhere → (i : ℕ) → labelAt ls i ≡ 0 → (k : ℕ) × Walk g ls i k
+  pub first-air : ℕ
+  pub is-air : labelAt ls first-air ≡ 0
   pub bytes-long : bytes ≡ byteNeed (cells g)
   pub floats-long : floats ≡ floatNeed (cells g)
   pub words-long : words ≡ wordNeed (cells g)

@@ -5,6 +5,9 @@ use Rattle.fields.proofs.Turns.{cell}
 use Rattle.fields.proofs.aim_at.Statement.{statement}
 use Rattle.fields.proofs.aim_at.Tie as tie
 
+add-at : tie.Need-add-at
+add-at c = search needs
+
 shared-slice-read-if1 : tie.Need-shared-slice-read-if1
 shared-slice-read-if1 c = search needs
 
@@ -20,9 +23,6 @@ mul-z-2 c = search needs
 slice-read-z : tie.Need-slice-read-z
 slice-read-z c = search needs
 
-add-p : tie.Need-add-p
-add-p c = search needs
-
 mul-p : tie.Need-mul-p
 mul-p c = search needs
 
@@ -32,17 +32,11 @@ slice-read-p c = search needs
 direction-of-requires : tie.Need-direction-of-requires
 direction-of-requires c κs = search needs
 
-add-room : tie.Need-add-room
-add-room c = search needs
-
 mul-room : tie.Need-mul-room
 mul-room c = search needs
 
 slice-write-room : tie.Need-slice-write-room
 slice-write-room c = search needs
-
-add-room-2 : tie.Need-add-room-2
-add-room-2 c = search needs
 
 mul-room-2 : tie.Need-mul-room-2
 mul-room-2 c = search needs
@@ -68,19 +62,17 @@ pub aim-at-spec : {M : Type 1} → statement M
 aim-at-spec =
     tie.close
     (tie.spec
+    add-at
     shared-slice-read-if1
     mul-z
     add-z
     mul-z-2
     slice-read-z
-    add-p
     mul-p
     slice-read-p
     direction-of-requires
-    add-room
     mul-room
     slice-write-room
-    add-room-2
     mul-room-2
     slice-write-room-2
     same-length

@@ -4,6 +4,12 @@ use Rattle.fields.proofs.Turns.{cell}
 use Rattle.fields.proofs.load_at.Statement.{statement}
 use Rattle.fields.proofs.load_at.Tie as tie
 
+mul-r : tie.Need-mul-r
+mul-r c = search needs
+
+add-r : tie.Need-add-r
+add-r c = search needs
+
 shared-slice-read-if1 : tie.Need-shared-slice-read-if1
 shared-slice-read-if1 c = search needs
 
@@ -13,23 +19,11 @@ right-at-requires c κs = search needs
 mul-room : tie.Need-mul-room
 mul-room c = search needs
 
-add-room : tie.Need-add-room
-add-room c = search needs
-
-mul-room-2 : tie.Need-mul-room-2
-mul-room-2 c = search needs
-
 slice-write-room : tie.Need-slice-write-room
 slice-write-room c = search needs
 
-mul-room-3 : tie.Need-mul-room-3
-mul-room-3 c = search needs
-
-add-room-2 : tie.Need-add-room-2
-add-room-2 c = search needs
-
-mul-room-4 : tie.Need-mul-room-4
-mul-room-4 c = search needs
+mul-room-2 : tie.Need-mul-room-2
+mul-room-2 c = search needs
 
 slice-write-room-2 : tie.Need-slice-write-room-2
 slice-write-room-2 c = search needs
@@ -51,15 +45,13 @@ pub load-at-spec : {M : Type 1} → statement M
 load-at-spec =
     tie.close
     (tie.spec
+    mul-r
+    add-r
     shared-slice-read-if1
     right-at-requires
     mul-room
-    add-room
-    mul-room-2
     slice-write-room
-    mul-room-3
-    add-room-2
-    mul-room-4
+    mul-room-2
     slice-write-room-2
     same-length
     returns

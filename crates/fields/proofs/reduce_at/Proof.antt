@@ -5,17 +5,17 @@ use Rattle.fields.proofs.Turns.{cell}
 use Rattle.fields.proofs.reduce_at.Statement.{statement}
 use Rattle.fields.proofs.reduce_at.Tie as tie
 
+mul-at : tie.Need-mul-at
+mul-at c = search needs
+
+add-at : tie.Need-add-at
+add-at c = search needs
+
 shared-slice-read-if1 : tie.Need-shared-slice-read-if1
 shared-slice-read-if1 c = search needs
 
 mul-r : tie.Need-mul-r
 mul-r c = search needs
-
-add-r : tie.Need-add-r
-add-r c = search needs
-
-mul-r-2 : tie.Need-mul-r-2
-mul-r-2 c = search needs
 
 slice-read-r : tie.Need-slice-read-r
 slice-read-r c = search needs
@@ -35,23 +35,11 @@ slice-read-t c = search needs
 mul-room : tie.Need-mul-room
 mul-room c = search needs
 
-add-room : tie.Need-add-room
-add-room c = search needs
-
-mul-room-2 : tie.Need-mul-room-2
-mul-room-2 c = search needs
-
 slice-write-room : tie.Need-slice-write-room
 slice-write-room c = search needs
 
-mul-room-3 : tie.Need-mul-room-3
-mul-room-3 c = search needs
-
-add-room-2 : tie.Need-add-room-2
-add-room-2 c = search needs
-
-mul-room-4 : tie.Need-mul-room-4
-mul-room-4 c = search needs
+mul-room-2 : tie.Need-mul-room-2
+mul-room-2 c = search needs
 
 slice-write-room-2 : tie.Need-slice-write-room-2
 slice-write-room-2 c = search needs
@@ -74,22 +62,18 @@ pub reduce-at-spec : {M : Type 1} → statement M
 reduce-at-spec =
     tie.close
     (tie.spec
+    mul-at
+    add-at
     shared-slice-read-if1
     mul-r
-    add-r
-    mul-r-2
     slice-read-r
     mul-t
     add-t
     mul-t-2
     slice-read-t
     mul-room
-    add-room
-    mul-room-2
     slice-write-room
-    mul-room-3
-    add-room-2
-    mul-room-4
+    mul-room-2
     slice-write-room-2
     same-length
     returns

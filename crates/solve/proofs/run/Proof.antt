@@ -1,14 +1,10 @@
+use Rattle.solve.proofs.Working.{running}
 use borrow.Author.Needs.{needs}
 use Rattle.solve.proofs.run.Statement.{statement}
 use Rattle.solve.proofs.run.Tie as tie
-use Rattle.solve.proofs.run.Reads as reads
-use Rattle.solve.proofs.run.Lts as lts
-use Rattle.grid.proofs.interior.interior.Reads as interior-reads
-use Rattle.rounds.proofs.run.Reads as run-reads
-use Rattle.trial.proofs.write_ticks.Reads as write-ticks-reads
 
 interior-requires : tie.Need-interior-requires
-interior-requires c κs = ?
+interior-requires c κs = search running
 
 run-requires : tie.Need-run-requires
 run-requires c κs = search needs
@@ -23,7 +19,7 @@ part-write-ticks-end : tie.Need-part-write-ticks-end
 part-write-ticks-end c = search needs
 
 write-ticks-requires : tie.Need-write-ticks-requires
-write-ticks-requires c κs = ?
+write-ticks-requires c κs = search running
 
 same-length : tie.Need-same-length
 same-length c = search needs
@@ -32,13 +28,13 @@ same-length-2 : tie.Need-same-length-2
 same-length-2 c = search needs
 
 returns : tie.Need-returns
-returns c = ?
+returns c = search running
 
 same-length-3 : tie.Need-same-length-3
 same-length-3 c = search needs
 
 returns-2 : tie.Need-returns-2
-returns-2 c = ?
+returns-2 c = search running
 
 pub run-spec : {M : Type 1} → statement M
 run-spec =

@@ -1,15 +1,10 @@
+use Rattle.solve.proofs.Working.{working, prepare-asked, worked-run}
 use borrow.Author.Needs.{needs}
 use Rattle.solve.proofs.work.Statement.{statement}
 use Rattle.solve.proofs.work.Tie as tie
-use Rattle.solve.proofs.work.Reads as reads
-use Rattle.solve.proofs.work.Lts as lts
-use Rattle.checks.proofs.rule.refusal.Reads as refusal-reads
-use Rattle.solve.proofs.prepare.prepare.Reads as prepare-reads
-use Rattle.solve.proofs.run.Reads as run-reads
-use Rattle.walks.proofs.distances.Reads as distances-reads
 
 distances-requires : tie.Need-distances-requires
-distances-requires c κs = ?
+distances-requires c κs = search working
 
 enum-known-sealed : tie.Need-enum-known-sealed
 enum-known-sealed c = search needs
@@ -21,16 +16,20 @@ enum-told : tie.Need-enum-told
 enum-told c = search needs
 
 prepare-requires : tie.Need-prepare-requires
-prepare-requires c κs = ?
+prepare-requires c κs =
+    let told = c .before .before in
+    let found = told .before .before .before .before in
+    let start = found .before .before .before .before .before .before in
+    prepare-asked (start .pre) _ (found .distances .ensures .sealed-is) (told .enum-told .given .1) (found .distances .last .0) (found .distances .kept .0)
 
 run-requires : tie.Need-run-requires
-run-requires c κs = ?
+run-requires c κs = search working
 
 same-length : tie.Need-same-length
 same-length c = search needs
 
 returns : tie.Need-returns
-returns c = ?
+returns c = search working
 
 same-length-2 : tie.Need-same-length-2
 same-length-2 c = search needs
@@ -45,7 +44,11 @@ same-length-5 : tie.Need-same-length-5
 same-length-5 c = search needs
 
 returns-2 : tie.Need-returns-2
-returns-2 c = ?
+returns-2 c =
+    let ran = c .before .before .before in
+    let told = ran .before .before .before .before .before .before .before .before .before .before .before .before in
+    let found = told .before .before .before .before in
+    worked-run _ _ _ _ _ _ _ (found .distances .ensures .sealed-is) _ _ (told .enum-told .given .1) (found .distances .ensures .depth-is) (ran .run .ensures)
 
 pub work-spec : {M : Type 1} → statement M
 work-spec =

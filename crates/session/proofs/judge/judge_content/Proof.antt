@@ -1,5 +1,5 @@
 -- `session::judge::judge_content` meets its contract: the rulings of its checks, the earlier first. Assumes nothing.
-use Rattle.session.proofs.JudgeLaws.{contents}
+use Rattle.session.proofs.JudgeLaws.{contents, content-ruled}
 use Rattle.session.proofs.judge.judge_content.Statement.{statement}
 use Rattle.session.proofs.judge.judge_content.Tie as tie
 
@@ -34,7 +34,7 @@ earlier-requires-2 : tie.Need-earlier-requires-2
 earlier-requires-2 c κs = search contents
 
 returns : tie.Need-returns
-returns c = search contents
+returns c = search content-ruled
 
 pub judge-content-spec : {M : Type 1} → statement M
 judge-content-spec =

@@ -1,37 +1,41 @@
+-- `solve::clear::clear_words` meets its contract: after i turns i elements are zero. Assumes nothing.
+use Prim.Native.Nat.{_≤_, _-_}
+use mathlib.Core.Path.{_≡_}
+use lib.ListN.{length}
+use Rattle.laws.proofs.Loops.{Up}
+use Rattle.solve.proofs.Clears.{zeroed, clears}
 use Rattle.solve.proofs.clear.clear_words.Statement.{statement}
 use Rattle.solve.proofs.clear.clear_words.Tie as tie
-use Rattle.solve.proofs.clear.clear_words.Reads as reads
-use Rattle.solve.proofs.clear.clear_words.Lts as lts
 
 abbrev Inv-loop : tie.InvT-loop
-Inv-loop room₀ need i₀ room i = ?
+Inv-loop room₀ need i₀ room i = (i ≤ need) × ((length room ≡ length room₀) × Up (zeroed 0) room₀ i room)
 
 abbrev μ-loop : tie.MeasureT-loop
-μ-loop room₀ need i₀ room i = ?
+μ-loop room₀ need i₀ room i = need - i
 
 loop-holds : tie.Need-loop-holds Inv-loop μ-loop
-loop-holds c = ?
+loop-holds c = search clears
 
 mul-room : tie.Need-mul-room Inv-loop μ-loop
-mul-room c = ?
+mul-room c = search clears
 
 slice-write-room : tie.Need-slice-write-room Inv-loop μ-loop
-slice-write-room c = ?
+slice-write-room c = search clears
 
 add-i : tie.Need-add-i Inv-loop μ-loop
-add-i c = ?
+add-i c = search clears
 
 loop-less : tie.Need-loop-less Inv-loop μ-loop
-loop-less c = ?
+loop-less c = search clears
 
 loop-again : tie.Need-loop-again Inv-loop μ-loop
-loop-again c = ?
+loop-again c = search clears
 
 same-length : tie.Need-same-length Inv-loop μ-loop
-same-length c = ?
+same-length c = search clears
 
 returns : tie.Need-returns Inv-loop μ-loop
-returns c = ?
+returns c = search clears
 
 pub clear-words-spec : {M : Type 1} → statement M
 clear-words-spec =

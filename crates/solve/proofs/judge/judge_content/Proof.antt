@@ -1,14 +1,7 @@
+use Rattle.solve.proofs.Judging.{contents}
 use borrow.Author.Needs.{needs}
 use Rattle.solve.proofs.judge.judge_content.Statement.{statement}
 use Rattle.solve.proofs.judge.judge_content.Tie as tie
-use Rattle.solve.proofs.judge.judge_content.Reads as reads
-use Rattle.solve.proofs.judge.judge_content.Lts as lts
-use Rattle.checks.proofs.cast.judge_cells.Reads as judge-cells-reads
-use Rattle.checks.proofs.cast.settings_fit.Reads as settings-fit-reads
-use Rattle.checks.proofs.rule.earlier.Reads as earlier-reads
-use Rattle.checks.proofs.rule.fault_unless.Reads as fault-unless-reads
-use Rattle.checks.proofs.rule.ruled.Reads as ruled-reads
-use Rattle.grid.proofs.interior.interior.Reads as interior-reads
 
 settings-fit-requires : tie.Need-settings-fit-requires
 settings-fit-requires c κs = search needs
@@ -38,7 +31,7 @@ earlier-requires-2 : tie.Need-earlier-requires-2
 earlier-requires-2 c κs = search needs
 
 returns : tie.Need-returns
-returns c = ?
+returns c = search contents
 
 pub judge-content-spec : {M : Type 1} → statement M
 judge-content-spec =

@@ -1,20 +1,16 @@
+use Rattle.solve.proofs.Preparing.{preparing}
 use borrow.Author.Needs.{needs}
 use Rattle.solve.proofs.prepare.prepare.Statement.{statement}
 use Rattle.solve.proofs.prepare.prepare.Tie as tie
-use Rattle.solve.proofs.prepare.prepare.Reads as reads
-use Rattle.solve.proofs.prepare.prepare.Lts as lts
-use Rattle.levels.proofs.labels.all_labels.Reads as all-labels-reads
-use Rattle.levels.proofs.lists.all_lists.Reads as all-lists-reads
-use Rattle.levels.proofs.sides.levels_of.Reads as levels-of-reads
 
 levels-of-requires : tie.Need-levels-of-requires
 levels-of-requires c κs = search needs
 
 all-labels-requires : tie.Need-all-labels-requires
-all-labels-requires c κs = ?
+all-labels-requires c κs = search preparing
 
 all-lists-requires : tie.Need-all-lists-requires
-all-lists-requires c κs = ?
+all-lists-requires c κs = search preparing
 
 same-length : tie.Need-same-length
 same-length c = search needs
@@ -23,7 +19,7 @@ same-length-2 : tie.Need-same-length-2
 same-length-2 c = search needs
 
 returns : tie.Need-returns
-returns c = ?
+returns c = search preparing
 
 pub prepare-spec : {M : Type 1} → statement M
 prepare-spec =

@@ -1,0 +1,4 @@
+-- The theorems.
+pub mod Rooms
+pub mod Rules
+pub mod Fronts

@@ -1,0 +1,2 @@
+-- What the theorems are about.
+pub mod Prints

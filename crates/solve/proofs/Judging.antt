@@ -1,0 +1,121 @@
+-- The checks before 7, in their order. Assumes nothing.
+use Prim.Native.Nat.{ℕ, zero, suc, _+_, _*_, _≤_, _<_}
+use mathlib.Core.Path.{_≡_, refl, sym, ap, ap₂, _∙_}
+use mathlib.Core.Bool.{Bool, true, false, not, _&&_, false≢true}
+use mathlib.Core.List.{List, [], _∷_}
+use native.Mathlib.Omega.{arith}
+use borrow.Author.Needs.{needs}
+use borrow.Author.Tests.{eq-eqb, ne-eqb, le-leb, lt-leb, lt-ltb, eqb-true}
+use lib.Dec.{ltb, leb, eqb}
+use lib.IntN.{ℤ}
+use lib.Ieee.{Float}
+use lib.ListN.{length}
+use Rattle.method.specs.declared.Sides.{Sides}
+use Rattle.method.specs.declared.Settings.{Settings}
+use Rattle.method.specs.declared.Found.{Found}
+use Rattle.method.specs.declared.Found.the-variants.{Nowhere, At}
+use Rattle.method.specs.Cast.{cells, sidesFit, settingsFit, interior}
+use Rattle.method.specs.Answers.{verdict, fault, byteNeed, floatNeed, wordNeed}
+use Rattle.method.specs.Calls.{Asked, lengthsFit, checksBefore7}
+use Rattle.theory.proofs.Sides.{Fit, fit}
+use Rattle.checks.specs.declared.Ruling.{Ruling}
+use Rattle.checks.specs.declared.Ruling.the-variants.{Refused, Allowed}
+use Rattle.checks.specs.Rulings.{rulingOf, rulingBy, firstOf}
+use Rattle.checks.specs.Faults.{cellRuling}
+use Rattle.checks.proofs.RuleLaws.{fails-at, passes-on, ruling-more, ruling-last, fault-no, fault-yes}
+use Rattle.checks.proofs.CheckLaws.{cells-ruled}
+use Rattle.solve.specs.Solve.{asked, lengthsBy, contentRuling}
+
+-- ---- check 2
+module _ (n labels values pressures bytes floats words : ℕ) where
+  pub labels-wrong : (labels ≡ n → ⊥) → false ≡ lengthsBy n labels values pressures bytes floats words
+  unfolding lengthsBy
+  labels-wrong h = rw (ne-eqb labels n h)
+
+  pub values-wrong : labels ≡ n → (values ≡ n → ⊥) → false ≡ lengthsBy n labels values pressures bytes floats words
+  unfolding lengthsBy
+  values-wrong a h = rw (eq-eqb labels n a, ne-eqb values n h)
+
+  pub pressures-wrong : labels ≡ n → values ≡ n → (pressures ≡ n → ⊥) → false ≡ lengthsBy n labels values pressures bytes floats words
+  unfolding lengthsBy
+  pressures-wrong a b h = rw (eq-eqb labels n a, eq-eqb values n b, ne-eqb pressures n h)
+
+  module _ (a : labels ≡ n) (b : values ≡ n) (c : pressures ≡ n) where
+    pub bytes-short : bytes < 2 * n + 16 → false ≡ lengthsBy n labels values pressures bytes floats words
+    unfolding lengthsBy byteNeed
+    bytes-short h = rw (eq-eqb labels n a, eq-eqb values n b, eq-eqb pressures n c, lt-leb (2 * n + 16) bytes h)
+
+    pub floats-short : 2 * n + 16 ≤ bytes → floats < 8 * n + 64 → false ≡ lengthsBy n labels values pressures bytes floats words
+    unfolding lengthsBy byteNeed floatNeed
+    floats-short d h = rw (eq-eqb labels n a, eq-eqb values n b, eq-eqb pressures n c, le-leb (2 * n + 16) bytes d, lt-leb (8 * n + 64) floats h)
+
+    pub words-last : 2 * n + 16 ≤ bytes → 8 * n + 64 ≤ floats → leb (2 * n) words ≡ lengthsBy n labels values pressures bytes floats words
+    unfolding lengthsBy byteNeed floatNeed wordNeed
+    words-last d e = rw (eq-eqb labels n a, eq-eqb values n b, eq-eqb pressures n c, le-leb (2 * n + 16) bytes d, le-leb (8 * n + 64) floats e)
+
+pub ruleset lengths = (needs, labels-wrong, values-wrong, pressures-wrong, bytes-short, floats-short, words-last)
+
+-- ---- checks 3 to 6
+pub content-is : (g : Sides) (ls : List ℕ) (vs : List ℤ) (t : Settings) (n : ℕ) (s : Bool) (i : ℕ) (x y : Found) (p q r m o : Ruling)
+    → s ≡ settingsFit t → x ≡ fault (not s) → p ≡ rulingBy 3 x → q ≡ cellRuling ls vs n → i ≡ interior g ls → y ≡ fault (not (ltb 0 i)) → r ≡ rulingBy 6 y
+    → m ≡ firstOf q r → o ≡ firstOf p m → o ≡ contentRuling g ls vs t n
+unfolding contentRuling
+content-is g ls vs t n s i x y p q r m o es ex ep eq ei ey er em eo =
+    eo ∙ ap₂ firstOf (ep ∙ ap (rulingBy 3) (ex ∙ ap (λ b. fault (not b)) es))
+    (em ∙ ap₂ firstOf eq (er ∙ ap (rulingBy 6) (ey ∙ ap (λ j. fault (not (ltb 0 j))) ei)))
+
+pub ruleset contents = (needs, content-is)
+
+-- ---- all of them
+none-is : (i : ℕ) → fault (eqb i 0) ≡ fault (not (ltb 0 i))
+none-is zero = refl
+none-is (suc i) = ap fault (ne-eqb (suc i) 0 (λ p. omega arith)) ∙ ap (λ b. fault (not b)) (sym (lt-ltb 0 (suc i) (omega arith)))
+
+module _ (g : Sides) (ls : List ℕ) (vs : List ℤ) (t : Settings) (ps : List ℤ) (bytes : List ℕ) (floats : List Float) (words : List ℕ) where
+  abbrev a : Asked
+  a = asked g ls vs t ps bytes floats words
+
+  lengths-are : (n : ℕ) → n ≡ cells g → lengthsFit a ≡ lengthsBy n (length ls) (length vs) (length ps) (length bytes) (length floats) (length words)
+  unfolding lengthsFit lengthsBy
+  lengths-are n e = rw e refl
+
+  module _ (b : Bool) (eb : b ≡ sidesFit g) where
+    pub sides-refused : b ≡ false → verdict checksBefore7 a ≡ rulingOf (Refused 1 0)
+    unfolding checksBefore7 rulingOf
+    sides-refused h = fails-at _ _ a 0 (fault-yes (sidesFit g) (sym eb ∙ h))
+
+    pub fits-sides : b ≡ true → Fit g
+    fits-sides h = fit g (sym eb ∙ h)
+
+    module _ (h : b ≡ true) (n : ℕ) (en : n ≡ cells g) (f : Bool) (ef : f ≡ lengthsBy n (length ls) (length vs) (length ps) (length bytes) (length floats) (length words)) where
+      pub lengths-refused : f ≡ false → verdict checksBefore7 a ≡ rulingOf (Refused 2 0)
+      unfolding checksBefore7 rulingOf
+      lengths-refused k = passes-on _ _ a (fault-no (sidesFit g) (sym eb ∙ h)) ∙ fails-at _ _ a 0 (fault-yes (lengthsFit a) (lengths-are n en ∙ sym ef ∙ k))
+
+      pub content-judged : (r : Ruling) → f ≡ true → r ≡ contentRuling g ls vs t n → verdict checksBefore7 a ≡ rulingOf r
+      unfolding checksBefore7 contentRuling
+      content-judged r k e =
+          passes-on _ _ a (fault-no (sidesFit g) (sym eb ∙ h)) ∙ passes-on _ _ a (fault-no (lengthsFit a) (lengths-are n en ∙ sym ef ∙ k))
+          ∙ ruling-more _ _ a (fault (not (settingsFit t))) _ refl
+          (cells-ruled (λ (b : Asked). b .cast) _ a n en (rulingBy 6 (fault (not (ltb 0 (interior g ls))))) (ruling-last _ a (fault (not (ltb 0 (interior g ls)))) (none-is (interior g ls))))
+          ∙ ap rulingOf (sym e)
+
+-- what check 2 leaves known
+pub both : (p q : Bool) → (p && q) ≡ true → (p ≡ true) × (q ≡ true)
+both true q k = (refl, k)
+both false q k = absurd (false≢true k)
+
+module _ (n labels values pressures bytes floats words : ℕ) (f : Bool) (e : f ≡ lengthsBy n labels values pressures bytes floats words) (h : f ≡ true) where
+  -- labels and values, and what is asked beside them
+  abbrev others : Bool
+  others = eqb pressures n && (leb (byteNeed n) bytes && (leb (floatNeed n) floats && leb (wordNeed n) words))
+
+  pub labels-known : labels ≡ n
+  unfolding lengthsBy
+  labels-known = eqb-true labels n (both (eqb labels n) (eqb values n && others) (sym e ∙ h) .0)
+
+  pub values-known : values ≡ n
+  unfolding lengthsBy
+  values-known = eqb-true values n (both (eqb values n) others (both (eqb labels n) (eqb values n && others) (sym e ∙ h) .1) .0)
+
+pub ruleset judging = (needs, sides-refused, fits-sides, lengths-refused, content-judged, labels-known, values-known)
