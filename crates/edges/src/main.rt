@@ -147,7 +147,16 @@ fn call(
     fill(pressures, bytes, floats, words);
     let sides = h.sides;
     let settings = h.settings;
-    let a = solve::solve(sides, labels, values, settings, pressures, bytes, floats, words);
+    let a = solve::solve(
+        sides,
+        labels,
+        values,
+        settings,
+        pressures,
+        bytes,
+        floats,
+        words,
+    );
     answer_lines(a);
     pressure_lines(pressures);
     rooms_line(a, labels.len(), bytes, floats, words);

@@ -64,11 +64,7 @@ pub fn fill_pressures(pressures: &mut [i64])
 fn same(x: f64, y: f64) -> bool
     ensures { λ r. ⌜ r ≡ Lent·same x y ⌝ }
 {
-    if x == y {
-        1.0 / x == 1.0 / y
-    } else {
-        false
-    }
+    if x == y { 1.0 / x == 1.0 / y } else { false }
 }
 
 // Whether element i is zero in the needed part, or the pattern beyond it.

@@ -104,7 +104,16 @@ fn answer_of(
     }
     let sides = r.sides;
     let settings = r.settings;
-    solve::solve(sides, labels, values, settings, pressures, bytes, floats, words)
+    solve::solve(
+        sides,
+        labels,
+        values,
+        settings,
+        pressures,
+        bytes,
+        floats,
+        words,
+    )
 }
 
 fn fill(pressures: &mut [i64], bytes: &mut [u8], floats: &mut [f64], words: &mut [u32]) {
@@ -213,7 +222,15 @@ fn one_frame(
                 return false;
             }
             frames::line(b"session=", number);
-            session_lines(&session[..n], values, pressures, bytes, floats, words, output);
+            session_lines(
+                &session[..n],
+                values,
+                pressures,
+                bytes,
+                floats,
+                words,
+                output,
+            );
             true
         }
     }
@@ -231,7 +248,16 @@ fn all_frames(
 ) {
     let mut number = 0;
     while number < 1000000000000 {
-        if !one_frame(number, session, values, pressures, bytes, floats, words, output) {
+        if !one_frame(
+            number,
+            session,
+            values,
+            pressures,
+            bytes,
+            floats,
+            words,
+            output,
+        ) {
             return;
         }
         number += 1;
