@@ -95,7 +95,7 @@ fn value_of(bytes: &[u8], n: usize) -> u32
 }
 
 // A line of a key and a number.
-pub(crate) fn number_line(bytes: &[u8], key: &[u8]) -> LineRead
+pub fn number_line(bytes: &[u8], key: &[u8]) -> LineRead
     ensures { λ r. ⌜ LineOf (numberLine (now (key .entry))) (now (bytes .entry)) r ⌝ }
 {
     if !starts(bytes, key) {
