@@ -20,7 +20,7 @@ use method::Settings;
 use words::bad_value;
 
 // Check 3.
-fn judge_third(settings: Settings) -> Ruling
+pub(crate) fn judge_third(settings: Settings) -> Ruling
     ensures { λ r. ⌜ r ≡ rulingBy 3 (fault (not (settingsFit settings))) ⌝ }
 {
     ruled(3, fault_unless(settings_fit(settings)))

@@ -38,7 +38,7 @@ fn body_fits(sides: Sides, left: usize) -> bool
 }
 
 // Check 1.
-fn judge_first(sides: Sides) -> Ruling
+pub(crate) fn judge_first(sides: Sides) -> Ruling
     ensures { λ r. ⌜ r ≡ rulingBy 1 (fault (not (sidesFit sides))) ⌝ }
 {
     ruled(1, fault_unless(sides_fit(sides)))
