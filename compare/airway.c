@@ -7,6 +7,8 @@
  *   airway --piece NAME          one part of the method, see README.md
  *   airway --reread              reader, writer and walks by themselves, see README.md
  *   airway --onecycle            the cycle on many casts, as often as each asks, see README.md
+ *   airway --replay              many sessions with room for the greatest cast, see README.md
+ *   airway --edges               direct calls of the solver, with any lengths lent, see README.md
  *
  * Build with -ffp-contract=off: each operation rounds once.
  */
@@ -933,21 +935,36 @@ static bool read_frame(long size, size_t *length)
     return true;
 }
 
-static int run_frames(long room)
+/* Answers every frame; false where one is bad. `rooms`: as the test program that also looks at what was lent. */
+static bool answer_frames(long room, bool rooms)
 {
     for (long number = 0;; number++) {
         long size = 0;
         size_t length = 0;
         Frame frame = read_frame_line(&size);
         if (frame == NO_FRAME)
-            return 0;
+            return true;
         if (frame == BAD_FRAME || !read_frame(size, &length)) {
             puts("frame=bad");
-            return 1;
+            return false;
         }
         printf("session=%ld\n", number);
         answer_session(length, room);
+        if (rooms)
+            puts("rooms=kept");
     }
+}
+
+static int run_frames(long room)
+{
+    return answer_frames(room, false) ? 0 : 1;
+}
+
+/* Nothing is lent here: what document 01 says of rooms holds. */
+static int run_replay(void)
+{
+    answer_frames(MAX_CELLS, true);
+    return 0;
 }
 
 /* ------------------------------------------------------------------ */
@@ -1070,6 +1087,87 @@ static int run_reread(void)
     for (long lent = 0; lent < 6; lent++) {
         printf("reader=%ld\n", lent);
         call_reader(lent);
+    }
+    return 0;
+}
+
+/* ------------------------------------------------------------------ */
+/* Direct calls of the solver, for comparing                          */
+
+/* What stands at the head of a call: twelve numbers of four bytes, most significant first. The last six are the lengths lent. */
+enum { NX, NY, NZ, TOLERANCE, LEVELS, ROUNDS, LABELS, VALUES, PRESSURES, BYTES, FLOATS, WORDS, CALL_HEAD };
+
+/* One more than the greatest cast needs. */
+static const size_t most_lent[CALL_HEAD] = {
+    [LABELS] = MAX_CELLS + 1, [VALUES] = MAX_CELLS + 1, [PRESSURES] = MAX_CELLS + 1,
+    [BYTES] = 2 * MAX_CELLS + 17, [FLOATS] = 8 * MAX_CELLS + 65, [WORDS] = 2 * MAX_CELLS + 1,
+};
+
+#define UNWRITTEN INT64_C(-9876543210123)   /* what pressures hold before a call */
+
+static bool take_call(size_t call[CALL_HEAD], unsigned char *labels, int64_t *values)
+{
+    static unsigned char fours[MAX_CELLS + 1][4];
+    for (int n = LABELS; n < CALL_HEAD; n++)
+        if (call[n] > most_lent[n])
+            return false;
+    size_t given = call[LABELS] > call[VALUES] ? call[LABELS] : call[VALUES];
+    if (fread(labels, 1, given, stdin) != given || fread(fours, 4, given, stdin) != given)
+        return false;
+    for (size_t n = 0; n < given; n++)
+        values[n] = value_of_bytes(fours[n], true);
+    return true;
+}
+
+/* "Labels, values and pressures handed in ... have exactly one element a cell"; "Rooms: bytes, 2*cells + 16; binary64, 8*cells + 64; u32, 2*cells" */
+static bool lengths_fit(const size_t call[CALL_HEAD], size_t cells)
+{
+    return call[LABELS] == cells && call[VALUES] == cells && call[PRESSURES] == cells
+        && call[BYTES] >= 2 * cells + 16 && call[FLOATS] >= 8 * cells + 64 && call[WORDS] >= 2 * cells;
+}
+
+/* "Solving checks 1 to 7 in that order, each over the whole cast before the next." */
+static Answer call_solver(const size_t call[CALL_HEAD], const unsigned char *labels, const int64_t *values)
+{
+    static Session session;
+    Header h = {(long)call[NX], (long)call[NY], (long)call[NZ], (long)call[TOLERANCE], (long)call[LEVELS], (long)call[ROUNDS], true};
+    if (!side_in_range(h.nx) || !side_in_range(h.ny) || !side_in_range(h.nz))
+        return refusal(1, 0);
+    keep_header(&h, &session);
+    size_t cells = (size_t)session.cells;
+    if (!lengths_fit(call, cells))
+        return refusal(2, 0);
+    if (!settings_in_range(&h))
+        return refusal(3, 0);
+    for (size_t cell = 0; cell < cells; cell++)
+        if (labels[cell] > WALL)
+            return refusal(4, (long)cell);
+    for (size_t cell = 0; cell < cells; cell++)
+        if (!value_in_range(labels[cell], values[cell]))
+            return refusal(5, (long)cell);
+    session.labels = labels;
+    memcpy(session.values, values, cells * sizeof *values);
+    return solve(&session);
+}
+
+static int run_edges(void)
+{
+    static unsigned char labels[MAX_CELLS + 1], head[CALL_HEAD][4];
+    static int64_t values[MAX_CELLS + 1];
+    size_t call[CALL_HEAD], got;
+    for (long number = 0; (got = fread(head, 1, sizeof head, stdin)) != 0; number++) {
+        for (int n = 0; n < CALL_HEAD; n++)
+            call[n] = (size_t)head[n][0] << 24 | (size_t)head[n][1] << 16 | (size_t)head[n][2] << 8 | head[n][3];
+        if (got != sizeof head || !take_call(call, labels, values)) {
+            puts("frame=bad");
+            return 0;
+        }
+        Answer answer = call_solver(call, labels, values);
+        printf("call=%ld\n", number);
+        print_answer(&answer);
+        for (size_t n = 0; n < call[PRESSURES]; n++)
+            printf("pressure=%" PRId64 "\n", answer.number == 0 ? pressures[n] : UNWRITTEN);
+        puts("rooms=kept");
     }
     return 0;
 }
@@ -1395,7 +1493,7 @@ static int run_cycles(void)
 
 typedef struct {
     long room;
-    bool frames, reread, cycles;
+    bool frames, reread, cycles, replay, edges;
     const Piece *piece;
 } Options;
 
@@ -1422,6 +1520,10 @@ static bool read_options(int count, char **argument, Options *options)
             options->reread = true;
         } else if (strcmp(argument[n], "--onecycle") == 0) {
             options->cycles = true;
+        } else if (strcmp(argument[n], "--replay") == 0) {
+            options->replay = true;
+        } else if (strcmp(argument[n], "--edges") == 0) {
+            options->edges = true;
         } else if (strcmp(argument[n], "--room") == 0 && n + 1 < count) {
             if (!whole_argument(argument[++n], &options->room))
                 return false;
@@ -1440,12 +1542,14 @@ int main(int count, char **argument)
 {
     Options options = {.room = PROGRAM_ROOM};
     if (!read_options(count, argument, &options)) {
-        fputs("usage: airway [--room N] [--frames] | --piece NAME | --reread | --onecycle\n", stderr);
+        fputs("usage: airway [--room N] [--frames] | --piece NAME | --reread | --onecycle | --replay | --edges\n", stderr);
         return 2;
     }
     int status = options.piece != NULL ? run_piece(options.piece)
                : options.reread ? run_reread()
                : options.cycles ? run_cycles()
+               : options.replay ? run_replay()
+               : options.edges ? run_edges()
                : options.frames ? run_frames(options.room)
                : run_session(options.room);
     return fflush(stdout) == 0 && !ferror(stdout) ? status : 1;

@@ -152,7 +152,10 @@ def straight_tube(rng, max_cells):
 
 def winding_throat(rng, max_cells):
     """A walk carved out of wall, an opening where it starts."""
-    nx, ny, nz = random_sides(rng, max_cells, least=2)
+    return throat_within(rng, *random_sides(rng, max_cells, least=2))
+
+
+def throat_within(rng, nx, ny, nz):
     labels = [WALL] * (nx * ny * nz)
     cell = rng.randrange(len(labels))
     start = cell
@@ -175,6 +178,10 @@ def maze(rng, max_cells):
     nx, ny, nz = random_sides(rng, max_cells, least=3)
     if rng.random() < 0.5:
         nx, ny, nz = min(MAX_SIDE, max(1, max_cells // ny)), ny, 1
+    return maze_within(rng, nx, ny, nz)
+
+
+def maze_within(rng, nx, ny, nz):
     labels = [WALL] * (nx * ny * nz)
     stack = [(0, 0, 0)]
     labels[0] = AIR

@@ -14,7 +14,7 @@ use method::Settings;
 use method::Sides;
 
 // One line, read: not of the form, or its value and how many bytes it took.
-enum LineRead {
+pub enum LineRead {
     NotOfForm,
     Value(u32, usize),
 }

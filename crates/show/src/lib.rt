@@ -38,7 +38,7 @@ fn put_answer(output: &mut [u8], at: usize, a: Answer) -> usize
 }
 
 // The size of any i64, of the least too.
-fn size(p: i64) -> u64
+pub fn size(p: i64) -> u64
     ensures { λ r. ⌜ r ≡ natAbs p ⌝ }
 {
     if p < 0 { (-1 - p) as u64 + 1 } else { p as u64 }
