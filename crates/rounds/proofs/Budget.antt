@@ -28,7 +28,7 @@ use Rattle.trial.specs.declared.Tested.{Tested}
 use Rattle.trial.specs.declared.Tested.the-variants.{Passed, Failed}
 use Rattle.trial.specs.Trial.{tested}
 use Rattle.fields.specs.Fields.{Held, x-of, p-of, z-of, r-of, t-of}
-use Rattle.rounds.specs.Rounds.{castOf, stateOf, zNew, rhoNew, betaNew, pNew, scalarsNew, below, Scaled, Advanced, Ready, endOf, RunOf, EndOf}
+use Rattle.rounds.specs.Rounds.{castOf, endedBy, stateOf, zNew, rhoNew, betaNew, pNew, scalarsNew, below, Scaled, Advanced, Ready, endOf, RunOf, EndOf}
 use Rattle.rounds.proofs.Turns.{turns, held, air-same, air-value}
 
 -- ---- a round, piece by piece
@@ -131,13 +131,13 @@ module _ (g : Sides) (ls : List ℕ) (vs : List ℤ) (t : Settings) (i d : ℕ) 
     left-none = let none : t .rounds - 0 ≡ t .rounds = omega arith in record { is = ap (λ n. from n (stateOf (cells g) 0 +0 e)) none }
 
     module _ (done : ℕ) (rho : Float) (m : List Float) (l : Left done rho m) (v : Tested) (tv : v ≡ tested k t (x-of (cells g) m)) where
-      pub left-pass : (w : ℕ) (r : Answer) → v ≡ Passed w → r ≡ accepted done w i d → RunOf g ls vs t i d e r m
+      pub left-pass : (w : ℕ) (r : Answer) → v ≡ Passed w → r ≡ endedBy 0 done w i d → RunOf g ls vs t i d e r m
       unfolding pass endOf accepted
       left-pass w r q a =
           let y = pass-here v m tv w q in
           record { is = sym (l .is) ∙ run-passes (t .rounds - done) (stateOf (cells g) done rho m) (y .0) ∙ rw (y .1, a) refl }
 
-      pub left-end : (r : Answer) → t .rounds ≤ done → v ≡ Failed → r ≡ unfinished 8 done i d → RunOf g ls vs t i d e r m
+      pub left-end : (r : Answer) → t .rounds ≤ done → v ≡ Failed → r ≡ endedBy 8 done 0 i d → RunOf g ls vs t i d e r m
       unfolding fail endOf unfinished
       left-end r h q a =
           let none : t .rounds - done ≡ 0 = omega arith in
@@ -157,7 +157,7 @@ module _ (g : Sides) (ls : List ℕ) (vs : List ℤ) (t : Settings) (i d : ℕ) 
             sym (l .is) ∙ ap (λ n. from n (stateOf (cells g) done rho m)) some-left
             ∙ run-more (t .rounds - (done + 1)) (stateOf (cells g) done rho m) u (fail-here v m tv q) (ap (λ n. round g ls n (stateOf (cells g) done rho m)) (sym level-count) ∙ y)
 
-        pub left-stall : (a : Float) (r : Answer) → w ≡ Stalled a → r ≡ unfinished 9 done i d → RunOf g ls vs t i d e r s
+        pub left-stall : (a : Float) (r : Answer) → w ≡ Stalled a → r ≡ endedBy 9 done 0 i d → RunOf g ls vs t i d e r s
         unfolding after fail endOf unfinished
         left-stall a r y b = record { is = left-after stalled (round-stalls g ls (below plan) done rho m s o c w sw a y) ∙ rw b refl }
 

@@ -82,8 +82,11 @@ inner-is g ls e a b v h q =
     q ∙ ap₂ (λ i j. dot g ls (value (take i (drop a e))) (value (take j (drop b e)))) m k
 
 pub test-is : (g : Sides) (ls : List ℕ) (k : Cast) (t : Settings) (e : List Float) (v : Tested) → length ls ≡ cells g
-    → v ≡ tested k t (take (length ls - 0) (drop 0 e)) → v ≡ tested k t (x-of (cells g) e)
-test-is g ls k t e v h q = let m : length ls - 0 ≡ cells g = omega arith in q ∙ ap (λ j. tested k t (take j e)) m
+    → v ≡ tested k t (take (0 * length ls + length ls - 0 * length ls) (drop (0 * length ls) e)) → v ≡ tested k t (x-of (cells g) e)
+test-is g ls k t e v h q =
+    let m : 0 * length ls + length ls - 0 * length ls ≡ cells g = omega arith in
+    let none : 0 * length ls ≡ 0 = omega arith in
+    q ∙ ap₂ (λ j i. tested k t (take j (drop i e))) m none
 
 -- ---- z, lent to the cycle with all that follows it
 module _ (plan : Plan) (bytes words : List ℕ) (n : ℕ) (e : List Float) (z : Prepared plan bytes words n (length e)) where

@@ -116,6 +116,10 @@ pub record Ready (g : Sides) (ls : List ℕ) (vs : List ℤ) (t : Settings) (pla
   pub tolerance : t .tolerance ≤ 1000000
   pub limit : t .rounds ≤ 1000
 
+-- an answer from the rounds: method's `accepted` is number 0, its `unfinished` another with worst 0
+abbrev pub endedBy : ℕ → ℕ → ℕ → ℕ → ℕ → Answer
+endedBy num rounds worst interior depth = record { number = num; place = 0; rounds = rounds; worst = worst; interior = interior; depth = depth }
+
 -- how a solve ends, as its answer and the pressures that it would write
 unfoldable pub endOf : Answer → List ℤ → End
 endOf a ps = elim (a .number) [ zero ↦ solved a ps | suc k ↦ failed a ]

@@ -6,10 +6,9 @@ ghost use mathlib.Core.Path.{_≡_};
 ghost use Prim.Native.Nat.{_*_, _≤_, _<_};
 ghost use lib.ListN.{length};
 ghost use Rattle.method.specs.Cast.{cells};
-ghost use Rattle.method.specs.Answers.{accepted as Answers·accepted, unfinished as Answers·unfinished};
 ghost use Rattle.fields.specs.Fields.{Held, x-of};
 ghost use Rattle.trial.specs.Trial.{tested};
-ghost use Rattle.rounds.specs.Rounds.{castOf, Advanced, Ready, RunOf, EndOf};
+ghost use Rattle.rounds.specs.Rounds.{castOf, endedBy, Advanced, Ready, RunOf, EndOf};
 use levels::lists::Lists;
 use levels::sides::Levels;
 use method::Answer;
@@ -26,29 +25,15 @@ pub struct Plan {
     pub count: usize,
 }
 
-// Answer 0.
-fn accepted(rounds: u32, worst: u32, interior: u32, depth: u32) -> Answer
-    ensures { λ r. ⌜ r ≡ Answers·accepted rounds worst interior depth ⌝ }
-{
-    Answer {
-        number: 0,
-        place: 0,
-        rounds,
-        worst,
-        interior,
-        depth,
-    }
-}
-
-// Answer 8 or 9.
-fn unfinished(number: u32, rounds: u32, interior: u32, depth: u32) -> Answer
-    ensures { λ r. ⌜ r ≡ Answers·unfinished number rounds interior depth ⌝ }
+// An answer from the rounds: 0, 8 or 9.
+fn ended(number: u32, rounds: u32, worst: u32, interior: u32, depth: u32) -> Answer
+    ensures { λ r. ⌜ r ≡ endedBy number rounds worst interior depth ⌝ }
 {
     Answer {
         number,
         place: 0,
         rounds,
-        worst: 0,
+        worst,
         interior,
         depth,
     }
@@ -66,7 +51,8 @@ fn test_x(
     ensures { λ r. ⌜ r ≡ tested (castOf g (now (labels .entry)) (now (values .entry))) settings (x-of (cells g) (now (room .entry))) ⌝ }
 {
     let n = labels.len();
-    trial::test(g, labels, values, &room[0..n], settings)
+    let x = 0 * n;
+    trial::test(g, labels, values, &room[x..x + n], settings)
 }
 
 // x + alpha·p, r - alpha·A p, with A p in t.
@@ -99,14 +85,14 @@ fn rounds(
     while done < settings.rounds {
         match test_x(&room[..], labels, values, g, settings) {
             trial::Tested::Passed(worst) => {
-                return accepted(done, worst, interior, depth);
+                return ended(0, done, worst, interior, depth);
             }
             trial::Tested::Failed => {}
         }
         let q = scalars_of(room, bytes, words, plan, labels, g, done, rho);
         match step_of(q) {
             Step::Stalled(_) => {
-                return unfinished(9, done, interior, depth);
+                return ended(9, done, 0, interior, depth);
             }
             Step::Go(alpha) => {
                 move_on(room, labels, g, alpha);
@@ -116,8 +102,8 @@ fn rounds(
         done += 1;
     }
     match test_x(&room[..], labels, values, g, settings) {
-        trial::Tested::Passed(worst) => accepted(done, worst, interior, depth),
-        trial::Tested::Failed => unfinished(8, done, interior, depth),
+        trial::Tested::Passed(worst) => ended(0, done, worst, interior, depth),
+        trial::Tested::Failed => ended(8, done, 0, interior, depth),
     }
 }
 

@@ -36,11 +36,11 @@ module _ (bytes : List ℕ) (old : List ℤ) where
   same-verdict = verdict-agree readerChecks lent (asked bytes (length old))
       (refl, (refl, (refl, (ap (λ k. fault (ltb k (cells (header bytes .sides)))) (sym (length-replicate (length old) (pos 0))), (refl, (refl, (refl, tt)))))))
 
-reading-refused : (q : Reading) (num place : ℕ) → verdict readerChecks q ≡ refused num place → reading q ≡ notRead q (refusal num place)
+pub reading-refused : (q : Reading) (num place : ℕ) → verdict readerChecks q ≡ refused num place → reading q ≡ notRead q (refusal num place)
 unfolding reading readingBy
 reading-refused q num place e = rw (reading, readingBy, e)
 
-reading-passed : (q : Reading) → verdict readerChecks q ≡ passed → reading q ≡ isRead q
+pub reading-passed : (q : Reading) → verdict readerChecks q ≡ passed → reading q ≡ isRead q
 unfolding reading readingBy
 reading-passed q e = rw (reading, readingBy, e)
 

@@ -163,8 +163,8 @@ module _ (ps : List ℤ) (old : List ℕ) (at : ℕ) where
         let f : toZ w64 (ofZ w64 (getD ps i (pos 0))) ≡ getD ps i (pos 0) = toZ-ofZ (record { sfits = m }) in
         record { puts = rw e (put-then (h .puts) (rw f at (p .puts))); short = omega (arith, h .short, p .short) }
 
-    pub celled-all : length ps ≤ i → Put (flatMap cellLine ps) old at new r
-    celled-all l = rw (take-all i ps l) at (h .puts)
+    pub celled-all : i ≤ length ps → length ps ≤ i → PutShort (26 * length ps) (flatMap cellLine ps) old at new r
+    celled-all m l = record { puts = rw (take-all i ps l) at (h .puts); short = omega (arith, h .short) }
 
     pub celled-room : i < length ps → at + 26 * length ps ≤ length old → r + 26 ≤ length new
     celled-room l m = omega (arith, h .short, put-length (h .puts))
@@ -179,13 +179,14 @@ module _ (a : Answer) (ps : List ℤ) (w u : List ℕ) (j : ℕ) where
   pub show-room : 108 + 26 * length ps ≤ length w → PutShort 108 (answerLines a) w 0 u j → j + 26 * length ps ≤ length u
   show-room r p = omega (arith, p .short, put-length (p .puts))
 
-  pub show-accepted : (d : List ℕ) (m : ℕ) → a .number ≡ 0 → PutShort 108 (answerLines a) w 0 u j → Put (flatMap cellLine ps) u j d m → Put (print a ps) w 0 d m
+  pub show-accepted : (d : List ℕ) (m : ℕ) → a .number ≡ 0 → PutShort 108 (answerLines a) w 0 u j → PutShort (26 * length ps) (flatMap cellLine ps) u j d m
+      → PutShort (108 + 26 * length ps) (print a ps) w 0 d m
   unfolding print
-  show-accepted d m e p q = rw (print, e) (put-then (p .puts) q)
+  show-accepted d m e p q = record { puts = rw (print, e) (put-then (p .puts) (q .puts)); short = omega (arith, p .short, q .short) }
 
-  pub show-other : (a .number ≡ 0 → ⊥) → PutShort 108 (answerLines a) w 0 u j → Put (print a ps) w 0 u j
+  pub show-other : (a .number ≡ 0 → ⊥) → PutShort 108 (answerLines a) w 0 u j → PutShort (108 + 26 * length ps) (print a ps) w 0 u j
   unfolding print
-  show-other e p = go (a .number) refl
+  show-other e p = record { puts = go (a .number) refl; short = omega (arith, p .short) }
     where
       go : (k : ℕ) → a .number ≡ k → Put (print a ps) w 0 u j
       go zero q = absurd (e q)

@@ -5,7 +5,6 @@ ghost use Prim.Native.Nat.{_+_, _*_, _≤_};
 ghost use lib.IntN.{natAbs};
 ghost use lib.ListN.{length};
 ghost use Rattle.method.specs.Program.{answerLines, print};
-ghost use Rattle.puts.specs.Puts.{Put};
 ghost use Rattle.show.specs.Shows.{cellLine, PutShort};
 use method::Answer;
 use puts::put_line;
@@ -61,7 +60,7 @@ fn put_cell(output: &mut [u8], at: usize, p: i64) -> usize
 // Puts the lines of all pressures, one after the other.
 fn put_cells(output: &mut [u8], at: usize, pressures: &[i64]) -> usize
     requires { ⌜ at + 26 * length (now pressures) ≤ length (now output) ⌝ }
-    ensures { λ r. ⌜ Put (flatMap cellLine (now (pressures .entry))) (now (output .entry)) at (now (output .exit)) r ⌝ }
+    ensures { λ r. ⌜ PutShort (26 * length (now (pressures .entry))) (flatMap cellLine (now (pressures .entry))) (now (output .entry)) at (now (output .exit)) r ⌝ }
 {
     let mut next = at;
     let mut i = 0;
@@ -76,7 +75,7 @@ fn put_cells(output: &mut [u8], at: usize, pressures: &[i64]) -> usize
 // Puts the whole print at the front, and answers how many bytes it has.
 pub fn show(answer: Answer, pressures: &[i64], output: &mut [u8]) -> usize
     requires { ⌜ 108 + 26 * length (now pressures) ≤ length (now output) ⌝ }
-    ensures { λ r. ⌜ Put (print answer (now (pressures .entry))) (now (output .entry)) 0 (now (output .exit)) r ⌝ }
+    ensures { λ r. ⌜ PutShort (108 + 26 * length (now (pressures .entry))) (print answer (now (pressures .entry))) (now (output .entry)) 0 (now (output .exit)) r ⌝ }
 {
     let next = put_answer(output, 0, answer);
     if answer.number == 0 {

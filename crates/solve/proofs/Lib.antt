@@ -4,3 +4,4 @@ pub mod Judging
 pub mod Preparing
 pub mod Working
 pub mod Solving
+pub mod Exam

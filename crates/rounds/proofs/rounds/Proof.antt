@@ -24,8 +24,8 @@ test-x-requires c κs = search budget
 enum-known-worst : tie.Need-enum-known-worst Inv-loop μ-loop
 enum-known-worst c = search budget
 
-accepted-requires : tie.Need-accepted-requires Inv-loop μ-loop
-accepted-requires c κs = search budget
+ended-requires : tie.Need-ended-requires Inv-loop μ-loop
+ended-requires c κs = search budget
 
 same-length : tie.Need-same-length Inv-loop μ-loop
 same-length c = search budget
@@ -45,11 +45,14 @@ step-of-requires c κs = search budget
 enum-told-2 : tie.Need-enum-told-2 Inv-loop μ-loop
 enum-told-2 c = search budget
 
-unfinished-requires : tie.Need-unfinished-requires Inv-loop μ-loop
-unfinished-requires c κs = search budget
+ended-requires-2 : tie.Need-ended-requires-2 Inv-loop μ-loop
+ended-requires-2 c κs = search budget
 
 same-length-2 : tie.Need-same-length-2 Inv-loop μ-loop
-same-length-2 c = search budget
+same-length-2 c =
+    let scaled = c .before .before .before .before .before .before in
+    let loop = scaled .before .before .before .before .before .before .before .before in
+    scaled .scalars-of .kept .0 ∙ loop .loop .inv .1 .0
 
 returns-2 : tie.Need-returns-2 Inv-loop μ-loop
 returns-2 c =
@@ -59,7 +62,7 @@ returns-2 c =
     let tested = scaled .before .before .before .before in
     let loop = tested .before .before .before .before in
     let start = loop .before .before .before .before .before in
-    left-stall _ _ _ _ _ _ _ _ _ _ (loop .loop .inv .1 .1) _ (tested .test-x .ensures) _ _ _ _ (start .pre) (tested .before .before .if1 .taken) (scaled .before .before .enum-told .given .1) _ _ (scaled .scalars-of .ensures) _ (stepped .step-of .ensures) _ _ (told .enum-told2 .given .1) (c .unfinished .ensures)
+    left-stall _ _ _ _ _ _ _ _ _ _ (loop .loop .inv .1 .1) _ (tested .test-x .ensures) _ _ _ _ (start .pre) (tested .before .before .if1 .taken) (scaled .before .before .enum-told .given .1) _ _ (scaled .scalars-of .ensures) _ (stepped .step-of .ensures) _ _ (told .enum-told2 .given .1) (c .ended2 .ensures)
 
 enum-known-alpha : tie.Need-enum-known-alpha Inv-loop μ-loop
 enum-known-alpha c = search budget
@@ -90,14 +93,14 @@ test-x-requires-2 c κs = search budget
 enum-known-worst-2 : tie.Need-enum-known-worst-2 Inv-loop μ-loop
 enum-known-worst-2 c = search budget
 
-accepted-requires-2 : tie.Need-accepted-requires-2 Inv-loop μ-loop
-accepted-requires-2 c κs = search budget
+ended-requires-3 : tie.Need-ended-requires-3 Inv-loop μ-loop
+ended-requires-3 c κs = search budget
 
 enum-told-3 : tie.Need-enum-told-3 Inv-loop μ-loop
 enum-told-3 c = search budget
 
-unfinished-requires-2 : tie.Need-unfinished-requires-2 Inv-loop μ-loop
-unfinished-requires-2 c κs = search budget
+ended-requires-4 : tie.Need-ended-requires-4 Inv-loop μ-loop
+ended-requires-4 c κs = search budget
 
 same-length-3 : tie.Need-same-length-3 Inv-loop μ-loop
 same-length-3 c = search budget
@@ -120,14 +123,14 @@ rounds-spec =
     loop-holds
     test-x-requires
     enum-known-worst
-    accepted-requires
+    ended-requires
     same-length
     returns
     enum-told
     scalars-of-requires
     step-of-requires
     enum-told-2
-    unfinished-requires
+    ended-requires-2
     same-length-2
     returns-2
     enum-known-alpha
@@ -137,9 +140,9 @@ rounds-spec =
     loop-again
     test-x-requires-2
     enum-known-worst-2
-    accepted-requires-2
+    ended-requires-3
     enum-told-3
-    unfinished-requires-2
+    ended-requires-4
     same-length-3
     returns-3
     same-length-4

@@ -1,0 +1,82 @@
+#!/usr/bin/env python3
+"""The program, compared with the separate implementation, one session a run.
+
+    program.py --program OUT [--seed S] [--count N]
+
+Runs ./airway on the sample sessions of examples/ and on document 01's own cases, and the built program on generated sessions, sound and
+damaged, on a sample session cut at many places, and on inputs of a megabyte. Each must print what OUT prints; document 01's example its nine lines.
+"""
+import argparse
+import os
+import random
+import subprocess
+import sys
+
+sys.dont_write_bytecode = True
+import example
+import generate
+import make_examples
+import programs
+
+SCRIPT = os.path.join(programs.ROOT, "airway")
+MEGABYTE = 1_000_000
+
+
+def by_script():
+    """Sessions for ./airway, by name, with what is to be printed where document 01 says so."""
+    for name, session, want in example.cases():
+        yield name, session, want
+    for name, want in (("example", example.NINE), ("throat", None)):
+        with open(os.path.join(make_examples.FOLDER, name + ".session"), "rb") as file:
+            yield f"examples/{name}.session", file.read(), want
+
+
+def by_program(seed, count):
+    """Sessions for the built program, by name."""
+    rng = random.Random(seed)
+    for k, session in enumerate(generate.sessions(seed, count)):
+        yield f"generated session {k}", session
+    throat = make_examples.throat()
+    for at in sorted(rng.sample(range(len(throat)), 60)):
+        yield f"the throat cut at {at}", throat[:at]
+    header = generate.session_bytes(10, 10, 10, "big", 0, 1, 5, [], [])
+    noise = rng.randbytes(MEGABYTE)
+    yield "a megabyte of noise", noise
+    yield "a header and a megabyte of noise", header + noise
+    yield "a megabyte of digits", b"nx=" + b"1" * MEGABYTE
+    full = generate.session_bytes(10, 10, 10, "big", 0, 2, 5, [1] + [0] * 999, [7] + [0] * 999)
+    for name, session in (("1,000 cells", full), ("one byte more", full + b"\0"), ("one byte less", full[:-1]), ("a megabyte more", full + noise)):
+        yield name, session
+
+
+def main():
+    parser = argparse.ArgumentParser()
+    parser.add_argument("--program", required=True)
+    parser.add_argument("--seed", type=int, default=1)
+    parser.add_argument("--count", type=int, default=400)
+    chosen = parser.parse_args()
+    wrong = runs = 0
+
+    def compare(name, session, words, want):
+        nonlocal wrong, runs
+        runs += 1
+        # a program that knows its answer reads no further, so what it is given may be more than it takes
+        ours = subprocess.run(words, input=session, stdout=subprocess.PIPE, check=True).stdout.decode("ascii")
+        theirs = programs.run([chosen.program], session)
+        if ours != theirs or (want is not None and ours != want):
+            wrong += 1
+            print(f"{name}: {programs.first_difference(ours, want if want is not None else theirs)}")
+
+    for name, session, want in by_script():
+        compare(name, session, [SCRIPT], want)
+    for name, session in by_program(chosen.seed, chosen.count):
+        compare(name, session, programs.command("airway"), None)
+    if make_examples.differing():
+        wrong += 1
+        print("examples/ is not what make_examples.py writes")
+    print(f"program: {runs} sessions, {wrong} differ")
+    return 1 if wrong else 0
+
+
+if __name__ == "__main__":
+    sys.exit(main())

@@ -1,0 +1,57 @@
+-- `respond::solve_read` meets its contract: the parts that the cells take. Assumes nothing.
+use Rattle.respond.proofs.RespondLaws.{parts}
+use Rattle.respond.proofs.solve_read.Statement.{statement}
+use Rattle.respond.proofs.solve_read.Tie as tie
+
+cell-count-requires : tie.Need-cell-count-requires
+cell-count-requires c κs = search parts
+
+labels-requires : tie.Need-labels-requires
+labels-requires c κs = search parts
+
+slice-aggregate-solved : tie.Need-slice-aggregate-solved
+slice-aggregate-solved c = search parts
+
+slice-relend-prefix-solved : tie.Need-slice-relend-prefix-solved
+slice-relend-prefix-solved c = search parts
+
+slice-aggregate-solved-2 : tie.Need-slice-aggregate-solved-2
+slice-aggregate-solved-2 c = search parts
+
+solved-requires : tie.Need-solved-requires
+solved-requires c κs = search parts
+
+same-length : tie.Need-same-length
+same-length c = search parts
+
+same-length-2 : tie.Need-same-length-2
+same-length-2 c = search parts
+
+same-length-3 : tie.Need-same-length-3
+same-length-3 c = search parts
+
+same-length-4 : tie.Need-same-length-4
+same-length-4 c = search parts
+
+same-length-5 : tie.Need-same-length-5
+same-length-5 c = search parts
+
+returns : tie.Need-returns
+returns c = search parts
+
+pub solve-read-spec : {M : Type 1} → statement M
+solve-read-spec =
+    tie.close
+    (tie.spec
+    cell-count-requires
+    labels-requires
+    slice-aggregate-solved
+    slice-relend-prefix-solved
+    slice-aggregate-solved-2
+    solved-requires
+    same-length
+    same-length-2
+    same-length-3
+    same-length-4
+    same-length-5
+    returns)

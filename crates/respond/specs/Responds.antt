@@ -1,0 +1,31 @@
+-- Room for so many cells, and what is known of a session that was read.
+use Prim.Native.Nat.{ℕ, _+_, _*_, _≤_}
+use mathlib.Core.Path.{_≡_}
+use mathlib.Core.Bool.{false}
+use mathlib.Core.List.{List, []}
+use lib.IntN.{ℤ}
+use lib.ListN.{take}
+use Rattle.method.specs.declared.Sides.{Sides}
+use Rattle.method.specs.declared.Settings.{Settings}
+use Rattle.method.specs.Cast.{cells}
+use Rattle.method.specs.Form.{header, valuesIn}
+use Rattle.method.specs.Answers.{passed, verdict, byteNeed, floatNeed, wordNeed}
+use Rattle.method.specs.Program.{programChecks}
+use Rattle.prints.specs.Prints.{crowded}
+
+-- by the lengths of what is lent: a value and a pressure a cell, the solver's rooms, and the print
+pub record Roomy (limit values pressures bytes floats words output : ℕ) : Type 0 where
+  pub values-long : limit ≤ values
+  pub pressures-long : limit ≤ pressures
+  pub bytes-long : byteNeed limit ≤ bytes
+  pub floats-long : floatNeed limit ≤ floats
+  pub words-long : wordNeed limit ≤ words
+  pub output-long : 108 + 26 * limit ≤ output
+
+-- it passes all checks, and what it names was handed back
+pub record IsRead (limit : ℕ) (input : List ℕ) (s : Sides) (t : Settings) (vs : List ℤ) : Type 0 where
+  pub free : crowded limit input ≡ false
+  pub passes : verdict (programChecks limit) (record { bytes = input; values = [] }) ≡ passed
+  pub sides : s ≡ header input .sides
+  pub settings : t ≡ header input .settings
+  pub values : take (cells s) vs ≡ valuesIn (header input)

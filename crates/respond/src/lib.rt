@@ -1,0 +1,170 @@
+// The answer to one session, printed (document 01, "The program"): the reader's where it refuses, else the solver's.
+ghost use mathlib.Core.Path.{_≡_};
+ghost use mathlib.Core.Bool.{false, _&&_};
+ghost use Prim.Native.Nat.{_+_, _*_, _≤_};
+ghost use lib.Dec.{ltb};
+ghost use lib.ListN.{length};
+ghost use Rattle.method.specs.Cast.{cells, sidesFit};
+ghost use Rattle.method.specs.Calls.{solving};
+ghost use Rattle.method.specs.Program.{shown, printed};
+ghost use Rattle.show.specs.Shows.{PutShort};
+ghost use Rattle.solve.specs.Solve.{asked};
+ghost use Rattle.prints.specs.Prints.{crowded};
+ghost use Rattle.respond.specs.Responds.{Roomy, IsRead};
+use checks::cast::sides_fit;
+use checks::rule::refusal;
+use grid::place::cell_count;
+use header::HeaderRead;
+use header::read_header;
+use method::Settings;
+use method::Sides;
+use show::show;
+
+// Whether sides are in range and have more cells than there is room for.
+fn past(sides: Sides, limit: usize) -> bool
+    ensures { λ r. ⌜ r ≡ (sidesFit sides && ltb limit (cells sides)) ⌝ }
+{
+    if sides_fit(sides) {
+        return limit < cell_count(sides);
+    }
+    false
+}
+
+// The same of the sides that a header names.
+fn too_many(bytes: &[u8], limit: usize) -> bool
+    ensures { λ r. ⌜ r ≡ crowded limit (now (bytes .entry)) ⌝ }
+{
+    match read_header(bytes) {
+        HeaderRead::Wrong(_) => false,
+        HeaderRead::Named(h) => {
+            let sides = h.sides;
+            past(sides, limit)
+        }
+    }
+}
+
+// A cast is solved, and the answer shown.
+fn solved(
+    sides: Sides,
+    labels: &[u8],
+    values: &[i32],
+    settings: Settings,
+    pressures: &mut [i64],
+    bytes: &mut [u8],
+    floats: &mut [f64],
+    words: &mut [u32],
+    output: &mut [u8],
+) -> usize
+    requires { ⌜ 108 + 26 * length (now pressures) ≤ length (now output) ⌝ }
+    ensures { λ r. ⌜ PutShort (108 + 26 * length (now (pressures .entry))) (shown (solving (asked sides (now (labels .entry)) (now (values .entry)) settings (now (pressures .entry)) (now (bytes .entry)) (now (floats .entry)) (now (words .entry))))) (now (output .entry)) 0 (now (output .exit)) r ⌝ }
+{
+    let answer = solve::solve(
+        sides,
+        labels,
+        values,
+        settings,
+        pressures,
+        bytes,
+        floats,
+        words,
+    );
+    show(answer, &pressures[..], output)
+}
+
+// A session that was read is solved, in the parts of what is lent that its cells take.
+fn solve_read(
+    input: &[u8],
+    limit: usize,
+    sides: Sides,
+    settings: Settings,
+    values: &[i32],
+    pressures: &mut [i64],
+    bytes: &mut [u8],
+    floats: &mut [f64],
+    words: &mut [u32],
+    output: &mut [u8],
+) -> usize
+    requires { ⌜ Roomy limit (length (now values)) (length (now pressures)) (length (now bytes)) (length (now floats)) (length (now words)) (length (now output)) ⌝ }
+    requires { ⌜ IsRead limit (now input) sides settings (now values) ⌝ }
+    ensures { λ r. ⌜ PutShort (108 + 26 * limit) (printed limit (now (input .entry))) (now (output .entry)) 0 (now (output .exit)) r ⌝ }
+{
+    let n = cell_count(sides);
+    let labels = session::labels(input, values.len());
+    solved(
+        sides,
+        labels,
+        &values[..n],
+        settings,
+        &mut pressures[..n],
+        bytes,
+        floats,
+        words,
+        output,
+    )
+}
+
+// A session that does not name too many cells is read, and solved where the reader does not refuse it.
+fn answered(
+    input: &[u8],
+    limit: usize,
+    values: &mut [i32],
+    pressures: &mut [i64],
+    bytes: &mut [u8],
+    floats: &mut [f64],
+    words: &mut [u32],
+    output: &mut [u8],
+) -> usize
+    requires { ⌜ Roomy limit (length (now values)) (length (now pressures)) (length (now bytes)) (length (now floats)) (length (now words)) (length (now output)) ⌝ }
+    requires { ⌜ crowded limit (now input) ≡ false ⌝ }
+    ensures { λ r. ⌜ PutShort (108 + 26 * limit) (printed limit (now (input .entry))) (now (output .entry)) 0 (now (output .exit)) r ⌝ }
+{
+    let read = session::read(input, values);
+    let answer = read.answer;
+    if answer.number != 0 {
+        return show(answer, &pressures[..0], output);
+    }
+    let sides = read.sides;
+    let settings = read.settings;
+    solve_read(
+        input,
+        limit,
+        sides,
+        settings,
+        &values[..],
+        pressures,
+        bytes,
+        floats,
+        words,
+        output,
+    )
+}
+
+// Puts the print that is due to a session at the front of the output, and answers how many input it has. All else that is lent is scratch.
+pub fn respond(
+    input: &[u8],
+    limit: usize,
+    values: &mut [i32],
+    pressures: &mut [i64],
+    bytes: &mut [u8],
+    floats: &mut [f64],
+    words: &mut [u32],
+    output: &mut [u8],
+) -> usize
+    requires { ⌜ Roomy limit (length (now values)) (length (now pressures)) (length (now bytes)) (length (now floats)) (length (now words)) (length (now output)) ⌝ }
+    ensures { λ r. ⌜ PutShort (108 + 26 * limit) (printed limit (now (input .entry))) (now (output .entry)) 0 (now (output .exit)) r ⌝ }
+{
+    if too_many(input, limit) {
+        let answer = refusal(2, 0);
+        return show(answer, &pressures[..0], output);
+    }
+    answered(
+        input,
+        limit,
+        values,
+        pressures,
+        bytes,
+        floats,
+        words,
+        output,
+    )
+}
