@@ -294,6 +294,6 @@ pub ruleset runs = (needs, not-true, not-false, counted-none, counted-more, coun
 
 pub ruleset numbers = (needs, valued-none, valued-more, valued-small, valued-end, is-digit, in-run)
 
-pub ruleset forms = (needs, number-none, number-long, number-one, number-rest, digit-both, digit-not, first-in)
+pub ruleset forms = (needs, number-none, number-long, number-one, number-rest, first-in)
 
 pub ruleset lines = (needs, not-true, not-false, starts-length, count-within, number-short, line-no-key, line-no-end, line-no-number, line-number, line-fits, word-fits, order-big, order-little, order-none)

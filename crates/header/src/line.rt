@@ -3,6 +3,7 @@ ghost use mathlib.Core.Path.{_≡_};
 ghost use Prim.Native.Nat.{_+_, _-_, _*_, _≤_, _<_};
 ghost use mathlib.Core.Bool.{true};
 ghost use lib.ListN.{length, drop};
+ghost use Rattle.laws.specs.Text.{text};
 ghost use Rattle.method.specs.Form.{digits, isDigit, isNumber, valueOf, numberLine, orderLine};
 ghost use Rattle.header.specs.Lines.{Starts, LineOf};
 use crate::LineRead;
@@ -22,6 +23,13 @@ fn starts(bytes: &[u8], key: &[u8]) -> bool
         i += 1;
     }
     true
+}
+
+// Whether a line ends here, by a line feed.
+fn ends(bytes: &[u8]) -> bool
+    ensures { λ r. ⌜ Starts (text "\n") (now (bytes .entry)) r ⌝ }
+{
+    starts(bytes, b"\n")
 }
 
 // The bytes from a place on.
@@ -105,7 +113,7 @@ pub fn number_line(bytes: &[u8], key: &[u8]) -> LineRead
     let word = rest(bytes, from);
     let n = digit_count(word);
     let end = rest(word, n);
-    if !starts(end, b"\n") {
+    if !ends(end) {
         return LineRead::NotOfForm;
     }
     if is_number(word, n) {

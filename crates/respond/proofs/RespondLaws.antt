@@ -29,7 +29,7 @@ use Rattle.header.specs.Lines.{HeaderOf, headerIn}
 use Rattle.header.specs.declared.Header.{Header as Head}
 use Rattle.header.specs.declared.HeaderRead.{HeaderRead}
 use Rattle.header.specs.declared.HeaderRead.the-variants.{Wrong, Named}
-use Rattle.show.specs.Shows.{PutShort}
+use Rattle.show.specs.Shows.{printRoom, PutShort}
 use Rattle.session.specs.Reads.{ReadOf}
 use Rattle.session.specs.Reads as reads
 use Rattle.session.specs.declared.Session.{Session}
@@ -66,21 +66,21 @@ pub ruleset heads = (needs, many-wrong, many-named)
 -- ---- the solver's answer, shown
 module _ (g : Sides) (ls : List ℕ) (vs : List ℤ) (t : Settings) (old : List ℤ) (bytes : List ℕ) (floats : List Float) (words : List ℕ) where
   pub solved-put : (r : Answer) (new : List ℤ) (bytes′ : List ℕ) (floats′ : List Float) (words′ w u : List ℕ) (j : ℕ)
-      → SolveOf (asked g ls vs t old bytes floats words) r new bytes′ floats′ words′ → length new ≡ length old → PutShort (108 + 26 * length new) (print r new) w 0 u j
-      → PutShort (108 + 26 * length old) (shown (solving (asked g ls vs t old bytes floats words))) w 0 u j
+      → SolveOf (asked g ls vs t old bytes floats words) r new bytes′ floats′ words′ → length new ≡ length old → PutShort (printRoom (length new)) (print r new) w 0 u j
+      → PutShort (printRoom (length old)) (shown (solving (asked g ls vs t old bytes floats words))) w 0 u j
   unfolding shown
   solved-put r new bytes′ floats′ words′ w u j s l p = record { puts = rw (← s .answer, ← s .pressures) (p .puts); short = omega (arith, p .short, l) }
 
 pub ruleset solvings = (needs, solved-put)
 
 -- what is put, by another name and with a greater bound
-as-printed : (limit : ℕ) (bs : List ℕ) (ps : List ℤ) (x w u : List ℕ) (j : ℕ) → printed limit bs ≡ x → length ps ≤ limit → PutShort (108 + 26 * length ps) x w 0 u j
-    → PutShort (108 + 26 * limit) (printed limit bs) w 0 u j
+as-printed : (limit : ℕ) (bs : List ℕ) (ps : List ℤ) (x w u : List ℕ) (j : ℕ) → printed limit bs ≡ x → length ps ≤ limit → PutShort (printRoom (length ps)) x w 0 u j
+    → PutShort (printRoom limit) (printed limit bs) w 0 u j
 as-printed limit bs ps x w u j e l p = record { puts = rw e (p .puts); short = omega (arith, p .short) }
 
 -- ---- too many cells, printed
 pub crowded-put : (bs : List ℕ) (limit : ℕ) (t : Bool) (a : Answer) (ps : List ℤ) (w u : List ℕ) (j : ℕ) → t ≡ crowded limit bs → t ≡ true → a ≡ refusal 2 0
-    → length ps ≤ limit → PutShort (108 + 26 * length ps) (print a ps) w 0 u j → PutShort (108 + 26 * limit) (printed limit bs) w 0 u j
+    → length ps ≤ limit → PutShort (printRoom (length ps)) (print a ps) w 0 u j → PutShort (printRoom limit) (printed limit bs) w 0 u j
 unfolding refusal
 crowded-put bs limit t a ps w u j e q f l p =
     as-printed limit bs ps (print a ps) w u j (printed-refused limit bs 2 0 (too-many limit bs (sym e ∙ q)) ∙ print-other (refusal 2 0) [] ps (omega arith) ∙ ap (λ r. print r ps) (sym f)) l p
@@ -88,7 +88,7 @@ crowded-put bs limit t a ps w u j e q f l p =
 pub not-crowded : (bs : List ℕ) (limit : ℕ) (t : Bool) → t ≡ crowded limit bs → t ≡ false → crowded limit bs ≡ false
 not-crowded bs limit t e q = sym e ∙ q
 
-pub no-room : (limit m : ℕ) → 108 + 26 * limit ≤ m → 108 ≤ m
+pub no-room : (limit m : ℕ) → printRoom limit ≤ m → 108 ≤ m
 no-room limit m h = omega arith
 
 pub ruleset responses = (needs, crowded-put, not-crowded, no-room)
@@ -126,12 +126,12 @@ module _ (limit : ℕ) (bs : List ℕ) (old new : List ℤ) (s : Session) (z : R
   abbrev lent : Reading
   lent = record { bytes = bs; values = old }
 
-  pub refused-put : (qs : List ℤ) (w u : List ℕ) (j : ℕ) → (s .answer .number ≡ 0 → ⊥) → length qs ≤ limit → PutShort (108 + 26 * length qs) (print (s .answer) qs) w 0 u j
-      → PutShort (108 + 26 * limit) (printed limit bs) w 0 u j
+  pub refused-put : (qs : List ℤ) (w u : List ℕ) (j : ℕ) → (s .answer .number ≡ 0 → ⊥) → length qs ≤ limit → PutShort (printRoom (length qs)) (print (s .answer) qs) w 0 u j
+      → PutShort (printRoom limit) (printed limit bs) w 0 u j
   unfolding isRead notRead done refusal readerChecks lineCheck sideCheck bodyCheck roomCheck contentChecks
   refused-put qs w u j x k p = go (judge readerChecks lent)
     where
-      go : Judged readerChecks lent → PutShort (108 + 26 * limit) (printed limit bs) w 0 u j
+      go : Judged readerChecks lent → PutShort (printRoom limit) (printed limit bs) w 0 u j
       go (fine v a) = absurd (x (ap (λ r. r .number) (z .answer) ∙ ap (λ r. r .answer .number) (reading-passed lent v)))
       go (faulty num place v f) =
           let a : s .answer ≡ refusal num place = z .answer ∙ ap (λ r. r .answer) (reading-refused lent num place v) in
@@ -199,7 +199,7 @@ module _ (limit : ℕ) (bs : List ℕ) (s : Sides) (t : Settings) (vs : List ℤ
     pub part-pressures : n ≡ length (take n ps)
     part-pressures = sym (length-take-le n ps in-pressures)
 
-    pub solved-room : 108 + 26 * length (take n ps) ≤ length out
+    pub solved-room : printRoom (length (take n ps)) ≤ length out
     solved-room = omega (arith, part-pressures, count-few, room .output-long)
 
     labels-is : reading (reads.asked bs (length vs)) .labels ≡ labelsIn (header bs)
@@ -239,7 +239,7 @@ module _ (limit : ℕ) (bs : List ℕ) (s : Sides) (t : Settings) (vs : List ℤ
           ∙ sym (rooms-alike (castIn (header bs)) (header bs .settings) (replicate N (pos 0)) (take n ps) (replicate (byteNeed N) 0) bytes (replicate (floatNeed N) +0) floats (replicate (wordNeed N) 0) words exact roomy)
           ∙ sym (printed-passed limit bs (z .passes))
 
-      pub solved-is : (u : List ℕ) (j : ℕ) → PutShort (108 + 26 * length (take n ps)) (shown (solving called)) out 0 u j → PutShort (108 + 26 * limit) (printed limit bs) out 0 u j
+      pub solved-is : (u : List ℕ) (j : ℕ) → PutShort (printRoom (length (take n ps))) (shown (solving called)) out 0 u j → PutShort (printRoom limit) (printed limit bs) out 0 u j
       solved-is u j p = as-printed limit bs (take n ps) (shown (solving called)) out u j (sym same-print) (omega (arith, part-pressures, count-few)) p
 
 pub ruleset parts = (needs, read-fit, in-values, part-values, in-pressures, part-pressures, solved-room, solved-is)

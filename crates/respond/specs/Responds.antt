@@ -1,5 +1,5 @@
 -- Room for so many cells, and what is known of a session that was read.
-use Prim.Native.Nat.{ℕ, _+_, _*_, _≤_}
+use Prim.Native.Nat.{ℕ, _≤_}
 use mathlib.Core.Path.{_≡_}
 use mathlib.Core.Bool.{false}
 use mathlib.Core.List.{List, []}
@@ -11,6 +11,7 @@ use Rattle.method.specs.Cast.{cells}
 use Rattle.method.specs.Form.{header, valuesIn}
 use Rattle.method.specs.Answers.{passed, verdict, byteNeed, floatNeed, wordNeed}
 use Rattle.method.specs.Program.{programChecks}
+use Rattle.show.specs.Shows.{printRoom}
 use Rattle.prints.specs.Prints.{crowded}
 
 -- by the lengths of what is lent: a value and a pressure a cell, the solver's rooms, and the print
@@ -20,7 +21,7 @@ pub record Roomy (limit values pressures bytes floats words output : ℕ) : Type
   pub bytes-long : byteNeed limit ≤ bytes
   pub floats-long : floatNeed limit ≤ floats
   pub words-long : wordNeed limit ≤ words
-  pub output-long : 108 + 26 * limit ≤ output
+  pub output-long : printRoom limit ≤ output
 
 -- it passes all checks, and what it names was handed back
 pub record IsRead (limit : ℕ) (input : List ℕ) (s : Sides) (t : Settings) (vs : List ℤ) : Type 0 where

@@ -1,13 +1,13 @@
 // The answer to one session, printed (document 01, "The program"): the reader's where it refuses, else the solver's.
 ghost use mathlib.Core.Path.{_≡_};
 ghost use mathlib.Core.Bool.{false, _&&_};
-ghost use Prim.Native.Nat.{_+_, _*_, _≤_};
+ghost use Prim.Native.Nat.{_≤_};
 ghost use lib.Dec.{ltb};
 ghost use lib.ListN.{length};
 ghost use Rattle.method.specs.Cast.{cells, sidesFit};
 ghost use Rattle.method.specs.Calls.{solving};
 ghost use Rattle.method.specs.Program.{shown, printed};
-ghost use Rattle.show.specs.Shows.{PutShort};
+ghost use Rattle.show.specs.Shows.{printRoom, PutShort};
 ghost use Rattle.solve.specs.Solve.{asked};
 ghost use Rattle.prints.specs.Prints.{crowded};
 ghost use Rattle.respond.specs.Responds.{Roomy, IsRead};
@@ -55,8 +55,8 @@ fn solved(
     words: &mut [u32],
     output: &mut [u8],
 ) -> usize
-    requires { ⌜ 108 + 26 * length (now pressures) ≤ length (now output) ⌝ }
-    ensures { λ r. ⌜ PutShort (108 + 26 * length (now (pressures .entry))) (shown (solving (asked sides (now (labels .entry)) (now (values .entry)) settings (now (pressures .entry)) (now (bytes .entry)) (now (floats .entry)) (now (words .entry))))) (now (output .entry)) 0 (now (output .exit)) r ⌝ }
+    requires { ⌜ printRoom (length (now pressures)) ≤ length (now output) ⌝ }
+    ensures { λ r. ⌜ PutShort (printRoom (length (now (pressures .entry)))) (shown (solving (asked sides (now (labels .entry)) (now (values .entry)) settings (now (pressures .entry)) (now (bytes .entry)) (now (floats .entry)) (now (words .entry))))) (now (output .entry)) 0 (now (output .exit)) r ⌝ }
 {
     let answer = solve::solve(
         sides,
@@ -86,7 +86,7 @@ fn solve_read(
 ) -> usize
     requires { ⌜ Roomy limit (length (now values)) (length (now pressures)) (length (now bytes)) (length (now floats)) (length (now words)) (length (now output)) ⌝ }
     requires { ⌜ IsRead limit (now input) sides settings (now values) ⌝ }
-    ensures { λ r. ⌜ PutShort (108 + 26 * limit) (printed limit (now (input .entry))) (now (output .entry)) 0 (now (output .exit)) r ⌝ }
+    ensures { λ r. ⌜ PutShort (printRoom limit) (printed limit (now (input .entry))) (now (output .entry)) 0 (now (output .exit)) r ⌝ }
 {
     let n = cell_count(sides);
     let labels = session::labels(input, values.len());
@@ -116,7 +116,7 @@ fn answered(
 ) -> usize
     requires { ⌜ Roomy limit (length (now values)) (length (now pressures)) (length (now bytes)) (length (now floats)) (length (now words)) (length (now output)) ⌝ }
     requires { ⌜ crowded limit (now input) ≡ false ⌝ }
-    ensures { λ r. ⌜ PutShort (108 + 26 * limit) (printed limit (now (input .entry))) (now (output .entry)) 0 (now (output .exit)) r ⌝ }
+    ensures { λ r. ⌜ PutShort (printRoom limit) (printed limit (now (input .entry))) (now (output .entry)) 0 (now (output .exit)) r ⌝ }
 {
     let read = session::read(input, values);
     let answer = read.answer;
@@ -151,7 +151,7 @@ pub fn respond(
     output: &mut [u8],
 ) -> usize
     requires { ⌜ Roomy limit (length (now values)) (length (now pressures)) (length (now bytes)) (length (now floats)) (length (now words)) (length (now output)) ⌝ }
-    ensures { λ r. ⌜ PutShort (108 + 26 * limit) (printed limit (now (input .entry))) (now (output .entry)) 0 (now (output .exit)) r ⌝ }
+    ensures { λ r. ⌜ PutShort (printRoom limit) (printed limit (now (input .entry))) (now (output .entry)) 0 (now (output .exit)) r ⌝ }
 {
     if too_many(input, limit) {
         let answer = refusal(2, 0);

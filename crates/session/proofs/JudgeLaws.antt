@@ -1,6 +1,6 @@
 -- Laws of the checks in their order, and of what the reader makes of a judgement. Assumes nothing.
 use mathlib.Core.Path.{_≡_, refl, sym, ap, ap₂, _∙_}
-use mathlib.Core.Bool.{Bool, true, not}
+use mathlib.Core.Bool.{true, not}
 use mathlib.Core.List.{List, _∷_}
 use Prim.Native.Nat.{ℕ, _+_, _-_, _*_, _≤_, _<_}
 use native.Mathlib.Omega.{arith}
@@ -12,7 +12,6 @@ use lib.ListN.{length, getD, take, drop, length-drop, length-replicate}
 use lib.Seq.{getD-take}
 use Rattle.laws.specs.Lists.{tab}
 use Rattle.laws.proofs.Lists.{getD-tab}
-use Rattle.method.specs.declared.Found.{Found}
 use Rattle.method.specs.declared.Found.the-variants.{Nowhere}
 use Rattle.method.specs.Cast.{cells, sidesFit, settingsFit, labelAt, widest, first, badLabel, badValue}
 use Rattle.method.specs.Form.{header, badLine, labelsIn, valuesIn, castIn}
@@ -24,7 +23,7 @@ use Rattle.checks.specs.Faults.{badLabelAt}
 use Rattle.words.specs.Body.{valueIn, badValueIn}
 use Rattle.theory.proofs.Firsts.{first-cong}
 use Rattle.theory.proofs.Sides.{Fit, fit}
-use Rattle.session.specs.Reads.{asked, verdictOf, Sized, Bodied, sizeRuling, ReadyIf, JudgedOf}
+use Rattle.session.specs.Reads.{asked, verdictOf, Sized, Bodied, sizeRuling, bodyRuling, contentRuling, ReadyIf, JudgedOf}
 use Rattle.checks.specs.Rulings.{rulingOf, rulingBy, firstOf}
 use Rattle.checks.specs.declared.Ruling.{Ruling}
 use Rattle.checks.specs.declared.Ruling.the-variants.{Refused as Refusedᴿ, Allowed}
@@ -68,23 +67,17 @@ module _ (bytes : List ℕ) (h : Header) (n : ℕ) (z : Sized bytes h n) where
       ap (λ H. badValue (H .sides) (labelsIn H) (valuesIn H)) (z .is) ∙ value-fault (named bytes h) n (z .cells) (omega (arith, z .long))
       ∙ ap (λ l. first (badValueIn l n (h .order)) n) (sym b)
 
-  pub content-ruled : (w : Bool) (body : List ℕ) (x y z : Found) (p q r i o : Ruling) → o ≡ firstOf p i → i ≡ firstOf q r → p ≡ rulingBy 3 x → q ≡ rulingBy 4 y → r ≡ rulingBy 5 z
-      → x ≡ fault (not w) → w ≡ settingsFit (h .settings) → body ≡ drop (h .start) bytes → y ≡ first (badLabelAt body) n → z ≡ first (badValueIn body n (h .order)) n
-      → verdict contentChecks (asked bytes 0) ≡ rulingOf o
-  unfolding contentChecks castIn
-  content-ruled w body x y z p q r i o eo ei ep eq er ex ew b ey ez =
-      ruling-more _ _ (asked bytes 0) x i (ap (λ t. fault (not t)) (settings-of ∙ sym ew) ∙ sym ex)
-      (ruling-more _ _ (asked bytes 0) y r (labels-of body b ∙ sym ey) (ruling-last _ (asked bytes 0) z (values-of body b ∙ sym ez) ∙ ap rulingOf (sym er))
-      ∙ ap rulingOf (ap (λ s. firstOf s r) (sym eq) ∙ sym ei))
-      ∙ ap rulingOf (ap (λ s. firstOf s i) (sym ep) ∙ sym eo)
+  pub content-ruled : (body : List ℕ) (o : Ruling) → o ≡ contentRuling (h .settings) body n (h .order) → body ≡ drop (h .start) bytes → verdict contentChecks (asked bytes 0) ≡ rulingOf o
+  unfolding contentChecks castIn contentRuling bodyRuling
+  content-ruled body o e b =
+      ruling-more _ _ (asked bytes 0) (fault (not (settingsFit (h .settings)))) _ (ap (λ t. fault (not t)) settings-of)
+      (ruling-more _ _ (asked bytes 0) (first (badLabelAt body) n) _ (labels-of body b) (ruling-last _ (asked bytes 0) (first (badValueIn body n (h .order)) n) (values-of body b)))
+      ∙ ap rulingOf (sym e)
 
   pub body-long : (body : List ℕ) → body ≡ drop (h .start) bytes → 5 * n ≤ length body
   body-long body b = omega (arith, ap length b, z .long)
 
-  pub labels-long : (body : List ℕ) → body ≡ drop (h .start) bytes → n ≤ length body
-  labels-long body b = omega (arith, body-long body b)
-
-pub ruleset contents = (needs, content-ruled, body-long, labels-long)
+pub ruleset rests = (needs, content-ruled, body-long)
 
 -- ---- the checks before those of the content
 -- no check of the content looks at the values
@@ -153,11 +146,11 @@ module _ (bytes : List ℕ) (room : ℕ) (h : Header) (z : Bodied bytes h) where
     pub bodied-sized : Sized bytes h n
     bodied-sized = rw c (z .sized)
 
-    module _ (x : Found) (p q o : Ruling) (eo : o ≡ firstOf p q) (ep : p ≡ rulingBy 2 x) (ex : x ≡ fault (not (leb n room))) (eq : verdict contentChecks (asked bytes 0) ≡ rulingOf q) where
-      short : roomCheck .fails (asked bytes room) ≡ x
+    module _ (p q o : Ruling) (eo : o ≡ firstOf p q) (ep : p ≡ rulingBy 2 (fault (not (leb n room)))) (eq : verdict contentChecks (asked bytes 0) ≡ rulingOf q) where
+      short : roomCheck .fails (asked bytes room) ≡ fault (not (leb n room))
       unfolding roomCheck
       short =
-          ap fault (ap₂ ltb (length-replicate room (pos 0)) (ap (λ H. cells (H .sides)) (z .sized .is) ∙ sym c) ∙ short-by n room) ∙ sym ex
+          ap fault (ap₂ ltb (length-replicate room (pos 0)) (ap (λ H. cells (H .sides)) (z .sized .is) ∙ sym c) ∙ short-by n room)
 
       past-11 : verdict readerChecks (asked bytes room) ≡ verdict (roomCheck ∷ contentChecks) (asked bytes room)
       unfolding readerChecks lineCheck sideCheck bodyCheck
@@ -169,7 +162,7 @@ module _ (bytes : List ℕ) (room : ℕ) (h : Header) (z : Bodied bytes h) where
 
       by-body : verdict readerChecks (asked bytes room) ≡ rulingOf o
       unfolding roomCheck
-      by-body = past-11 ∙ ruling-more roomCheck contentChecks (asked bytes room) x q short (content-same bytes room ∙ eq) ∙ ap rulingOf (ap (λ r. firstOf r q) (sym ep) ∙ sym eo)
+      by-body = past-11 ∙ ruling-more roomCheck contentChecks (asked bytes room) (fault (not (leb n room))) q short (content-same bytes room ∙ eq) ∙ ap rulingOf (ap (λ r. firstOf r q) (sym ep) ∙ sym eo)
 
       pub body-refused : (num place : ℕ) → o ≡ Refusedᴿ num place → JudgedOf bytes room (Refused num place)
       unfolding verdictOf rulingOf ReadyIf
@@ -179,7 +172,7 @@ module _ (bytes : List ℕ) (room : ℕ) (h : Header) (z : Bodied bytes h) where
       unfolding verdictOf rulingOf ReadyIf
       body-passed d =
           let a : p ≡ Allowed = both-allowed p q (sym eo ∙ d) .0 in
-          let f : leb n room ≡ true = no-fault (leb n room) (sym ex ∙ ruled-none 2 x (sym ep ∙ a)) in
+          let f : leb n room ≡ true = no-fault (leb n room) (ruled-none 2 _ (sym ep ∙ a)) in
           record { is = by-body ∙ rw d; ready = record { sized = z .sized; roomy = rw c at (leb-true n room f) } }
 
 pub session-10 : (bytes : List ℕ) (room : ℕ) (x : HeaderRead) (k : ℕ) → HeaderOf bytes x → x ≡ Wrong k → JudgedOf bytes room (Refused 10 k)

@@ -1,11 +1,11 @@
 -- Laws of the writer: lengths, the checks in their order, and what it makes of a judgement. Assumes nothing.
-use mathlib.Core.Path.{_≡_, refl, sym, ap, _∙_}
-use mathlib.Core.Bool.{Bool, true, false, not, _&&_}
-use mathlib.Core.List.{List, [], _∷_, _++_}
-use Prim.Native.Nat.{ℕ, _+_, _*_, _≤_, _<_}
+use mathlib.Core.Path.{_≡_, refl, sym, ap, ap₂, _∙_}
+use mathlib.Core.Bool.{Bool, true, false, not, _&&_, false≢true}
+use mathlib.Core.List.{List, [], _++_}
+use Prim.Native.Nat.{ℕ, _+_, _*_, _≤_}
 use native.Mathlib.Omega.{arith}
 use borrow.Author.Needs.{needs}
-use borrow.Author.Tests.{lt-leb, le-leb, eq-eqb, ne-eqb, not-true, not-false}
+use borrow.Author.Tests.{eq-eqb, ne-eqb, eqb-true, leb-true, not-true, not-false}
 use lib.Dec.{leb, eqb}
 use lib.IntN.{ℤ}
 use lib.ListN.{length, drop, replicate, length-replicate}
@@ -14,23 +14,38 @@ use Rattle.method.specs.declared.Answer.{Answer}
 use Rattle.method.specs.declared.Sides.{Sides}
 use Rattle.method.specs.declared.Order.{Order}
 use Rattle.method.specs.declared.Settings.{Settings}
-use Rattle.method.specs.Cast.{cells, sidesFit, settingsFit, badLabel, badValue}
-use Rattle.method.specs.Form.{written}
-use Rattle.method.specs.Answers.{check, fault, passed, refused, verdict, refusal, done, filled}
+use Rattle.method.specs.Cast.{cells, sidesFit, settingsFit}
+use Rattle.method.specs.Form.{headerWritten, written}
+use Rattle.method.specs.Answers.{fault, passed, refused, verdict, refusal, done, filled}
 use Rattle.method.specs.Calls.{Writing, bytesOf, writerLengthsFit, writerChecks, writing}
 use Rattle.checks.specs.Faults.{cellRuling}
 use Rattle.puts.specs.Puts.{Put}
 use Rattle.writes.specs.Lengths.{HeaderLength}
-use Rattle.session.specs.Writes.{offered, WriteOf, RoomIf, RuledOf}
+use Rattle.session.specs.Writes.{offered, WriteOf, RoomIf, limitRuling, sliceRuling, RuledOf}
 use Rattle.checks.specs.declared.Ruling.{Ruling}
 use Rattle.checks.specs.declared.Ruling.the-variants.{Refused, Allowed}
 use Rattle.theory.proofs.Sides.{Fit, fit}
-use Rattle.checks.proofs.RuleLaws.{fails-at, passes-on, verdict-agree, ruling-none, last-ruling, fault-no, fault-yes}
+use Rattle.checks.proofs.RuleLaws.{verdict-agree, ruling-none, ruling-more, last-ruling, first-assoc, both-allowed, ruled-none, fault-no, fault-yes}
+use Rattle.theory.proofs.Verdicts.{no-fault}
 use Rattle.checks.proofs.CheckLaws.{cells-ruled}
-use Rattle.checks.specs.Rulings.{rulingOf}
+use Rattle.checks.specs.Rulings.{rulingOf, rulingBy, firstOf}
 use Rattle.writes.proofs.LengthLaws.{written-length}
 
--- ---- the checks before those of the cells
+-- ---- 1 before 3, and an output that is just long enough
+pub limits-ruled : (s : Sides) (t : Settings) (p q o : Ruling) → o ≡ firstOf p q → p ≡ rulingBy 1 (fault (not (sidesFit s))) → q ≡ rulingBy 3 (fault (not (settingsFit t)))
+    → o ≡ limitRuling s t
+unfolding limitRuling
+limits-ruled s t p q o g a b = g ∙ ap₂ firstOf a b
+
+pub room-is : (s : Sides) (o : Order) (t : Settings) (m n room : ℕ) → HeaderLength s o t m → leb (m + 5 * n) room ≡ leb (length (headerWritten s o t) + 5 * n) room
+room-is s o t m n room l = ap (λ k. leb (k + 5 * n) room) (l .is)
+
+pub ruleset limits = (needs, limits-ruled, room-is)
+
+and-true : (a b : Bool) → (a && b) ≡ true → (a ≡ true) × (b ≡ true)
+and-true true b e = (refl, e)
+and-true false b e = absurd (false≢true e)
+
 module _ (s : Sides) (o : Order) (t : Settings) (ls : List ℕ) (vs : List ℤ) (room : ℕ) where
   abbrev whole : List ℕ
   whole = written (record { sides = s; labels = ls; values = vs }) o t
@@ -38,69 +53,82 @@ module _ (s : Sides) (o : Order) (t : Settings) (ls : List ℕ) (vs : List ℤ) 
   abbrev lent : Writing
   lent = offered s o t ls vs (replicate room 0)
 
-  module _ (a : Bool) (p : a ≡ sidesFit s) where
-    pub cast-1 : a ≡ false → RuledOf s o t ls vs room (Refused 1 0)
-    unfolding writerChecks rulingOf RoomIf
-    cast-1 f = record { is = fails-at _ _ lent 0 (fault-yes (sidesFit s) (sym p ∙ f)); roomy = tt }
+  -- ---- check 2
+  module _ (n : ℕ) (c : n ≡ cells s) where
+    pub lengths-labels : (length ls ≡ n → ⊥) → false ≡ writerLengthsFit lent
+    unfolding writerLengthsFit
+    lengths-labels h = rw (ne-eqb (length ls) (cells s) (λ e. h (e ∙ sym c)))
 
-    module _ (f : a ≡ true) (b : Bool) (q : b ≡ settingsFit t) where
-      pub cast-3 : b ≡ false → RuledOf s o t ls vs room (Refused 3 0)
-      unfolding writerChecks rulingOf RoomIf
-      cast-3 g = record { is = passes-on _ _ lent (fault-no (sidesFit s) (sym p ∙ f)) ∙ fails-at _ _ lent 0 (fault-yes (settingsFit t) (sym q ∙ g)); roomy = tt }
+    module _ (h : length ls ≡ n) where
+      pub lengths-values : (length vs ≡ n → ⊥) → false ≡ writerLengthsFit lent
+      unfolding writerLengthsFit
+      lengths-values k = rw (eq-eqb (length ls) (cells s) (h ∙ c), ne-eqb (length vs) (cells s) (λ e. k (e ∙ sym c)))
 
-      module _ (g : b ≡ true) (n : ℕ) (c : n ≡ cells s) where
-        past-3 : verdict writerChecks lent
-            ≡ verdict (check 2 (λ w. fault (not (writerLengthsFit w))) ∷ check 4 (λ w. badLabel (w .cast .sides) (w .cast .labels))
-            ∷ check 5 (λ w. badValue (w .cast .sides) (w .cast .labels) (w .cast .values)) ∷ []) lent
-        unfolding writerChecks
-        past-3 = passes-on _ _ lent (fault-no (sidesFit s) (sym p ∙ f)) ∙ passes-on _ _ lent (fault-no (settingsFit t) (sym q ∙ g))
+      pub lengths-room : (d : Bool) → length vs ≡ n → d ≡ leb (length (headerWritten s o t) + 5 * n) room → d ≡ writerLengthsFit lent
+      unfolding writerLengthsFit
+      lengths-room d k l =
+          let need : length (headerWritten s o t) + 5 * n ≡ length whole = sym (written-length s o t ls vs ∙ omega arith) in
+          l ∙ ap (λ m. leb m room) need ∙ rw (eq-eqb (length ls) (cells s) (h ∙ c), eq-eqb (length vs) (cells s) (k ∙ c), length-replicate {A = ℕ} room 0)
 
-        by-2 : writerLengthsFit lent ≡ false → RuledOf s o t ls vs room (Refused 2 0)
-        unfolding rulingOf RoomIf
-        by-2 e = record { is = past-3 ∙ fails-at _ _ lent 0 (fault-yes (writerLengthsFit lent) e); roomy = tt }
+  lengths-known : writerLengthsFit lent ≡ true → (length ls ≡ cells s) × ((length vs ≡ cells s) × (length whole ≤ room))
+  unfolding writerLengthsFit
+  lengths-known e =
+      let a = and-true (eqb (length ls) (cells s)) _ e in
+      let b = and-true (eqb (length vs) (cells s)) _ (a .1) in
+      (eqb-true _ _ (a .0), (eqb-true _ _ (b .0), rw (length-replicate {A = ℕ} room 0) at (leb-true (length whole) _ (b .1))))
 
-        pub cast-2-labels : (length ls ≡ n → ⊥) → RuledOf s o t ls vs room (Refused 2 0)
-        unfolding writerLengthsFit
-        cast-2-labels h = by-2 (rw (ne-eqb (length ls) (cells s) (λ e. h (e ∙ sym (c)))))
+  -- ---- 2, and then 4 and 5
+  module _ (b : Bool) (p : b ≡ writerLengthsFit lent) where
+    pub slices-2 : b ≡ false → Refused 2 0 ≡ sliceRuling lent
+    unfolding sliceRuling rulingBy firstOf
+    slices-2 e = sym (ap (λ f. firstOf (rulingBy 2 f) (cellRuling ls vs (cells s))) (fault-yes (writerLengthsFit lent) (sym p ∙ e)))
 
-        module _ (h : length ls ≡ n) where
-          pub cast-2-values : (length vs ≡ n → ⊥) → RuledOf s o t ls vs room (Refused 2 0)
-          unfolding writerLengthsFit
-          cast-2-values k = by-2 (rw (eq-eqb (length ls) (cells s) (h ∙ c), ne-eqb (length vs) (cells s) (λ e. k (e ∙ sym (c)))))
+    module _ (e : b ≡ true) (n : ℕ) (c : n ≡ cells s) where
+      pub slices-labels : n ≤ length ls
+      slices-labels = omega (arith, c, lengths-known (sym p ∙ e) .0)
 
-          module _ (k : length vs ≡ n) (m : ℕ) (l : HeaderLength s o t m) where
-            need : length whole ≡ m + 5 * n
-            need = written-length s o t ls vs ∙ omega (arith, l .is)
+      pub slices-values : n ≤ length vs
+      slices-values = omega (arith, c, lengths-known (sym p ∙ e) .1 .0)
 
-            fits-by : leb (length whole) room ≡ writerLengthsFit lent
-            unfolding writerLengthsFit
-            fits-by = rw (eq-eqb (length ls) (cells s) (h ∙ c), eq-eqb (length vs) (cells s) (k ∙ c), length-replicate {A = ℕ} room 0)
+      pub slices-cells : (r : Ruling) → r ≡ cellRuling ls vs n → r ≡ sliceRuling lent
+      unfolding sliceRuling rulingBy firstOf
+      slices-cells r q =
+          q ∙ ap (cellRuling ls vs) c ∙ sym (ap (λ f. firstOf (rulingBy 2 f) (cellRuling ls vs (cells s))) (fault-no (writerLengthsFit lent) (sym p ∙ e)))
 
-            pub cast-2-room : room < m + 5 * n → RuledOf s o t ls vs room (Refused 2 0)
-            cast-2-room r = by-2 (sym fits-by ∙ lt-leb (length whole) room (omega (arith, need)))
+  room-if : (q : Ruling) → q ≡ sliceRuling lent → RoomIf (length whole) room q
+  unfolding RoomIf sliceRuling
+  room-if (Refused x y) e = tt
+  room-if Allowed e =
+      lengths-known (no-fault (writerLengthsFit lent) (ruled-none 2 _ (both-allowed (rulingBy 2 (fault (not (writerLengthsFit lent)))) _ (sym e) .0))) .1 .1
 
-            past-2 : m + 5 * n ≤ room → verdict writerChecks lent
-                ≡ verdict (check 4 (λ w. badLabel (w .cast .sides) (w .cast .labels)) ∷ check 5 (λ w. badValue (w .cast .sides) (w .cast .labels) (w .cast .values)) ∷ []) lent
-            past-2 r = past-3 ∙ passes-on _ _ lent (fault-no (writerLengthsFit lent) (sym fits-by ∙ le-leb (length whole) room (omega (arith, need))))
+  -- ---- 1 and 3, and then the others
+  module _ (a : Ruling) (p : a ≡ limitRuling s t) where
+    by-limits : (q : Ruling) → q ≡ sliceRuling lent → verdict writerChecks lent ≡ rulingOf (firstOf a q)
+    unfolding writerChecks limitRuling sliceRuling
+    by-limits q e =
+        ruling-more _ _ lent (fault (not (sidesFit s))) _ refl
+        (ruling-more _ _ lent (fault (not (settingsFit t))) _ refl
+        (ruling-more _ _ lent (fault (not (writerLengthsFit lent))) (cellRuling ls vs (cells s)) refl
+        (cells-ruled (λ w. w .cast) [] lent (cells s) refl Allowed (ruling-none lent) ∙ ap rulingOf (last-ruling (cellRuling ls vs (cells s))))))
+        ∙ ap rulingOf (sym (first-assoc (rulingBy 1 (fault (not (sidesFit s)))) (rulingBy 3 (fault (not (settingsFit t)))) _) ∙ ap₂ firstOf (sym p) (sym e))
 
-            room-if : (r : Ruling) → m + 5 * n ≤ room → RoomIf (length whole) room r
-            unfolding RoomIf
-            room-if (Refused x y) r = tt
-            room-if Allowed r = omega (arith, need)
+    pub cast-refused : (num place : ℕ) → a ≡ Refused num place → RuledOf s o t ls vs room (Refused num place)
+    unfolding rulingOf RoomIf firstOf
+    cast-refused num place d = record { is = by-limits (sliceRuling lent) refl ∙ ap (λ x. rulingOf (firstOf x (sliceRuling lent))) d; roomy = tt }
 
-            pub cast-cells : (r : Ruling) → m + 5 * n ≤ room → r ≡ cellRuling ls vs n → RuledOf s o t ls vs room r
-            cast-cells r u e = record {
-              is = past-2 u ∙ cells-ruled (λ w. w .cast) [] lent n (c) Allowed (ruling-none lent) ∙ ap rulingOf (last-ruling (cellRuling ls vs n) ∙ sym e);
-              roomy = room-if r u;
-            }
+    pub limits-fit : a ≡ Allowed → Fit s
+    unfolding limitRuling
+    limits-fit d = fit s (no-fault (sidesFit s) (ruled-none 1 _ (both-allowed (rulingBy 1 (fault (not (sidesFit s)))) _ (sym p ∙ d) .0)))
 
-pub sides-known : (s : Sides) (r : Bool) → r ≡ sidesFit s → r ≡ true → Fit s
-sides-known s r e t = fit s (sym e ∙ t)
+    pub cast-slices : (q : Ruling) → a ≡ Allowed → q ≡ sliceRuling lent → RuledOf s o t ls vs room q
+    unfolding firstOf
+    cast-slices q d e = record { is = by-limits q e ∙ ap (λ x. rulingOf (firstOf x q)) d; roomy = room-if q e }
 
-pub cells-long : (n m : ℕ) → m ≡ n → n ≤ m
-cells-long n m e = omega arith
+pub ruleset lengths = (needs, not-true, not-false, lengths-labels, lengths-values, lengths-room)
 
-pub ruleset casts = (needs, not-true, not-false, sides-known, cells-long, cast-1, cast-3, cast-2-labels, cast-2-values, cast-2-room, cast-cells)
+pub ruleset slices = (needs, not-true, not-false, slices-2, slices-labels, slices-values, slices-cells)
+
+pub ruleset casts = (needs, cast-refused, limits-fit, cast-slices)
 
 -- ---- what the writer makes of it
 writing-refused : (w : Writing) (num place : ℕ) → verdict writerChecks w ≡ refused num place → writing w ≡ record { answer = refusal num place; count = 0; output = w .output }

@@ -6,15 +6,19 @@ use mathlib.Core.List.{List}
 use Prim.Native.Nat.{ℕ, _*_, _≤_}
 use lib.ListN.{length, drop, replicate}
 use lib.IntN.{ℤ, pos}
-use Rattle.method.specs.Cast.{cells, sidesFit}
+use Rattle.method.specs.Cast.{cells, sidesFit, settingsFit, first}
 use Rattle.method.specs.declared.Sides.{Sides}
+use Rattle.method.specs.declared.Order.{Order}
+use Rattle.method.specs.declared.Settings.{Settings}
 use Rattle.method.specs.declared.Found.the-variants.{Nowhere}
 use Rattle.method.specs.declared.Order.the-variants.{Big}
 use Rattle.theory.proofs.Sides.{Fit}
 use Rattle.method.specs.Form.{header, badLine}
 use Rattle.method.specs.Answers.{Verdict, passed, refused, verdict, fault, refusal, done}
 use Rattle.method.specs.Calls.{Reading, readerChecks, reading}
+use Rattle.checks.specs.Faults.{badLabelAt}
 use Rattle.checks.specs.Rulings.{rulingBy, firstOf}
+use Rattle.words.specs.Body.{badValueIn}
 use Rattle.checks.specs.declared.Ruling.{Ruling}
 use Rattle.header.specs.Lines.{named}
 use Rattle.header.specs.declared.Header.{Header}
@@ -57,6 +61,13 @@ pub record Bodied (bytes : List ℕ) (h : Header) : Type 0 where
 -- checks 1 and 11, of the sides and how many bytes the body has
 unfoldable pub sizeRuling : Sides → ℕ → Ruling
 sizeRuling s left = firstOf (rulingBy 1 (fault (not (sidesFit s)))) (rulingBy 11 (fault (not (eqb left (5 * cells s)))))
+
+-- checks 4 and 5 of a body of n cells, and 3 of the settings before them
+unfoldable pub bodyRuling : List ℕ → ℕ → Order → Ruling
+bodyRuling body n o = firstOf (rulingBy 4 (first (badLabelAt body) n)) (rulingBy 5 (first (badValueIn body n o) n))
+
+unfoldable pub contentRuling : Settings → List ℕ → ℕ → Order → Ruling
+contentRuling t body n o = firstOf (rulingBy 3 (fault (not (settingsFit t)))) (bodyRuling body n o)
 
 pub record Ready (bytes : List ℕ) (room : ℕ) (h : Header) : Type 0 where
   pub sized : Sized bytes h (cells (h .sides))

@@ -7,22 +7,19 @@ ghost use Rattle.session.specs.Reads.{Bodied, JudgedOf, Sized, asked};
 ghost use Rattle.checks.specs.Rulings.{rulingOf};
 ghost use Rattle.header.specs.declared.HeaderRead.the-variants.{Named};
 use crate::Judged;
+use crate::content::judge_content;
+use crate::sizes::judge_second;
 use crate::sizes::judge_sides;
 use checks::Ruling;
-use checks::cast::bad_label;
-use checks::cast::settings_fit;
 use checks::rule::earlier;
-use checks::rule::fault_unless;
-use checks::rule::ruled;
 use grid::place::cell_count;
 use header::Header;
 use header::HeaderRead;
 use header::line::rest;
 use header::read_header;
-use words::bad_value;
 
-// Checks 3, 4 and 5, of a body of n cells.
-fn judge_content(bytes: &[u8], n: usize, h: Header) -> Ruling
+// Checks 3, 4 and 5, of what the header names and a body of n cells.
+fn judge_rest(bytes: &[u8], n: usize, h: Header) -> Ruling
     requires { ⌜ Sized (now bytes) h n ⌝ }
     ensures { λ r. ⌜ verdict contentChecks (asked (now (bytes .entry)) 0) ≡ rulingOf r ⌝ }
 {
@@ -30,10 +27,7 @@ fn judge_content(bytes: &[u8], n: usize, h: Header) -> Ruling
     let order = h.order;
     let start = h.start;
     let body = rest(bytes, start);
-    let third = ruled(3, fault_unless(settings_fit(settings)));
-    let fourth = ruled(4, bad_label(body, n));
-    let fifth = ruled(5, bad_value(body, n, order));
-    earlier(third, earlier(fourth, fifth))
+    judge_content(settings, body, n, order)
 }
 
 // Checks 2, 3, 4 and 5, of a session whose sizes are right.
@@ -43,8 +37,9 @@ fn judge_body(bytes: &[u8], room: usize, h: Header) -> Judged
 {
     let sides = h.sides;
     let n = cell_count(sides);
-    let second = ruled(2, fault_unless(n <= room));
-    match earlier(second, judge_content(bytes, n, h)) {
+    let second = judge_second(n, room);
+    let others = judge_rest(bytes, n, h);
+    match earlier(second, others) {
         Ruling::Refused(number, place) => Judged::Refused(number, place),
         Ruling::Allowed => Judged::Passed(h),
     }

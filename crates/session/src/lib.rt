@@ -1,14 +1,15 @@
 // The reader and the writer of a session (document 01, "The session form").
+mod content;
 mod judge;
 mod sizes;
 mod writer;
 
 ghost use mathlib.Core.Path.{_≡_};
-ghost use Rattle.method.specs.Answers.{refusal as Answers·refusal};
 ghost use Rattle.method.specs.Calls.{reading};
 ghost use Rattle.session.specs.Reads.{FitIf, ReadOf, asked, takenOf};
 ghost use Rattle.session.specs.Writes.{WriteOf};
 use checks::Ruling;
+use checks::rule::refusal;
 use grid::place::cell_count;
 use header::Header;
 use header::line::rest;
@@ -46,20 +47,6 @@ struct Taken {
 pub struct Written {
     pub answer: Answer,
     pub count: usize,
-}
-
-// An answer that has a number and a place alone.
-fn refusal(number: u32, place: u32) -> Answer
-    ensures { λ r. ⌜ r ≡ Answers·refusal number place ⌝ }
-{
-    Answer {
-        number,
-        place,
-        rounds: 0,
-        worst: 0,
-        interior: 0,
-        depth: 0,
-    }
 }
 
 // What is taken of a session that was judged: of a refused one nothing, and no cell.

@@ -1,7 +1,7 @@
 // The checks of sizes that ask for nothing: they hold for any sides that a header may name.
 ghost use mathlib.Core.Path.{_≡_};
 ghost use Prim.Native.Nat.{_*_};
-ghost use lib.Dec.{eqb};
+ghost use lib.Dec.{eqb, leb};
 ghost use mathlib.Core.Bool.{not};
 ghost use Rattle.method.specs.Cast.{cells, sidesFit};
 ghost use Rattle.method.specs.Answers.{fault};
@@ -38,10 +38,17 @@ fn body_fits(sides: Sides, left: usize) -> bool
 }
 
 // Check 1.
-fn judge_first(sides: Sides) -> Ruling
+pub(crate) fn judge_first(sides: Sides) -> Ruling
     ensures { λ r. ⌜ r ≡ rulingBy 1 (fault (not (sidesFit sides))) ⌝ }
 {
     ruled(1, fault_unless(sides_fit(sides)))
+}
+
+// Check 2, of n cells and a slice of so many values.
+pub(crate) fn judge_second(n: usize, room: usize) -> Ruling
+    ensures { λ r. ⌜ r ≡ rulingBy 2 (fault (not (leb n room))) ⌝ }
+{
+    ruled(2, fault_unless(n <= room))
 }
 
 // Check 11, of how many bytes the body has.

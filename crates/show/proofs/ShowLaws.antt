@@ -18,14 +18,14 @@ use Rattle.laws.specs.Text.{text}
 use Rattle.method.specs.declared.Answer.{Answer}
 use Rattle.method.specs.Form.{decimal, line}
 use Rattle.method.specs.Program.{whole, answerLines, print}
-use Rattle.words.proofs.WordLaws.{one-minus-neg, negative, positive}
+use Rattle.words.proofs.WordLaws.{same, below, above, turned-fits, turned-read}
 use Rattle.puts.specs.Puts.{Put}
 use Rattle.puts.proofs.PutLaws.{put-length, put-then}
 use Rattle.puts.proofs.DecimalLaws.{most-digits}
 use Rattle.writes.specs.Lengths.{threeLines}
 use Rattle.writes.proofs.PartLaws.{flat-append, flat-one}
 use Rattle.writes.proofs.LengthLaws.{line-length, three-length}
-use Rattle.show.specs.Shows.{cellLine, PutShort}
+use Rattle.show.specs.Shows.{cellLine, printRoom, PutShort}
 
 -- ---- the six lines
 abbrev firstThree : Answer → List ℕ
@@ -65,42 +65,23 @@ module _ (a : Answer) (x : a .number < 2 ^ 32) (y : a .place < 2 ^ 32) (z : a .r
 
 pub ruleset answers = (needs, first-room, last-room, answer-put)
 
--- ---- the size of a pressure, as the code reads it from its bits
+-- ---- the size of a pressure
 module _ (p : ℤ) (f : SFits w64 p) where
-  same : toZ w64 (ofZ w64 p) ≡ p
-  same = toZ-ofZ f
-
   module _ (e : ltZ (toZ w64 (ofZ w64 p)) (pos 0) ≡ true) where
-    below : p ≡ negsuc (mag p)
-    below = negative p (rw same at e)
-
-    turned : negsuc 0 -ℤ toZ w64 (ofZ w64 p) ≡ pos (mag p)
-    turned = ap (λ z. negsuc 0 -ℤ z) (same ∙ below) ∙ one-minus-neg (mag p)
-
-    pub turned-fits : SFits w64 (negsuc 0 -ℤ toZ w64 (ofZ w64 p))
-    turned-fits = rw turned (record { sfits = f .sfits })
-
-    turned-read : toZ w64 (ofZ w64 (negsuc 0 -ℤ toZ w64 (ofZ w64 p))) ≡ pos (mag p)
-    turned-read = toZ-ofZ turned-fits ∙ turned
-
     pub turned-cast : T (nonNeg (toZ w64 (ofZ w64 (negsuc 0 -ℤ toZ w64 (ofZ w64 p))))) × Fits w64 (natAbs (toZ w64 (ofZ w64 (negsuc 0 -ℤ toZ w64 (ofZ w64 p)))))
-    turned-cast = rw turned-read (tt, record { fits = omega (arith, f .sfits) })
+    turned-cast = rw (turned-read p f e) (tt, record { fits = omega (arith, f .sfits) })
 
     pub turned-more : Fits w64 (natAbs (toZ w64 (ofZ w64 (negsuc 0 -ℤ toZ w64 (ofZ w64 p)))) + 1)
-    turned-more = rw turned-read (record { fits = omega (arith, f .sfits) })
+    turned-more = rw (turned-read p f e) (record { fits = omega (arith, f .sfits) })
 
     pub size-below : natAbs (toZ w64 (ofZ w64 (negsuc 0 -ℤ toZ w64 (ofZ w64 p)))) + 1 ≡ natAbs p
-    size-below = rw turned-read (omega arith ∙ sym (ap natAbs below))
+    size-below = rw (turned-read p f e) (omega arith ∙ sym (ap natAbs (below p f e)))
 
-  module _ (e : ltZ (toZ w64 (ofZ w64 p)) (pos 0) ≡ false) where
-    above : p ≡ pos (mag p)
-    above = positive p (rw same at e)
+  pub plain-cast : ltZ (toZ w64 (ofZ w64 p)) (pos 0) ≡ false → T (nonNeg (toZ w64 (ofZ w64 p))) × Fits w64 (natAbs (toZ w64 (ofZ w64 p)))
+  plain-cast e = rw (same p f, above p f e) (tt, record { fits = omega (arith, f .sfits) })
 
-    pub plain-cast : T (nonNeg (toZ w64 (ofZ w64 p))) × Fits w64 (natAbs (toZ w64 (ofZ w64 p)))
-    plain-cast = rw (same, above) (tt, record { fits = omega (arith, f .sfits) })
-
-    pub size-above : natAbs (toZ w64 (ofZ w64 p)) ≡ natAbs p
-    size-above = ap natAbs same
+  pub size-above : natAbs (toZ w64 (ofZ w64 p)) ≡ natAbs p
+  size-above = ap natAbs (same p f)
 
 pub ruleset sizes = (needs, turned-fits, turned-more, size-below, size-above)
 
@@ -176,15 +157,15 @@ pub ruleset lists = (needs, celled-none, celled-more, celled-all, celled-room, c
 
 -- ---- the whole print
 module _ (a : Answer) (ps : List ℤ) (w u : List ℕ) (j : ℕ) where
-  pub show-room : 108 + 26 * length ps ≤ length w → PutShort 108 (answerLines a) w 0 u j → j + 26 * length ps ≤ length u
+  pub show-room : printRoom (length ps) ≤ length w → PutShort 108 (answerLines a) w 0 u j → j + 26 * length ps ≤ length u
   show-room r p = omega (arith, p .short, put-length (p .puts))
 
   pub show-accepted : (d : List ℕ) (m : ℕ) → a .number ≡ 0 → PutShort 108 (answerLines a) w 0 u j → PutShort (26 * length ps) (flatMap cellLine ps) u j d m
-      → PutShort (108 + 26 * length ps) (print a ps) w 0 d m
+      → PutShort (printRoom (length ps)) (print a ps) w 0 d m
   unfolding print
   show-accepted d m e p q = record { puts = rw (print, e) (put-then (p .puts) (q .puts)); short = omega (arith, p .short, q .short) }
 
-  pub show-other : (a .number ≡ 0 → ⊥) → PutShort 108 (answerLines a) w 0 u j → PutShort (108 + 26 * length ps) (print a ps) w 0 u j
+  pub show-other : (a .number ≡ 0 → ⊥) → PutShort 108 (answerLines a) w 0 u j → PutShort (printRoom (length ps)) (print a ps) w 0 u j
   unfolding print
   show-other e p = record { puts = go (a .number) refl; short = omega (arith, p .short) }
     where

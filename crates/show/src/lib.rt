@@ -5,7 +5,7 @@ ghost use Prim.Native.Nat.{_+_, _*_, _≤_};
 ghost use lib.IntN.{natAbs};
 ghost use lib.ListN.{length};
 ghost use Rattle.method.specs.Program.{answerLines, print};
-ghost use Rattle.show.specs.Shows.{cellLine, PutShort};
+ghost use Rattle.show.specs.Shows.{cellLine, printRoom, PutShort};
 use method::Answer;
 use puts::put_line;
 use writes::put_three;
@@ -74,8 +74,8 @@ fn put_cells(output: &mut [u8], at: usize, pressures: &[i64]) -> usize
 
 // Puts the whole print at the front, and answers how many bytes it has.
 pub fn show(answer: Answer, pressures: &[i64], output: &mut [u8]) -> usize
-    requires { ⌜ 108 + 26 * length (now pressures) ≤ length (now output) ⌝ }
-    ensures { λ r. ⌜ PutShort (108 + 26 * length (now (pressures .entry))) (print answer (now (pressures .entry))) (now (output .entry)) 0 (now (output .exit)) r ⌝ }
+    requires { ⌜ printRoom (length (now pressures)) ≤ length (now output) ⌝ }
+    ensures { λ r. ⌜ PutShort (printRoom (length (now (pressures .entry)))) (print answer (now (pressures .entry))) (now (output .entry)) 0 (now (output .exit)) r ⌝ }
 {
     let next = put_answer(output, 0, answer);
     if answer.number == 0 {

@@ -35,37 +35,28 @@ module _ {A : Type 0} (z : A) where
   unfolding cleared
   cleared-home need e part h k = ap (λ l. replicate need z ++ l) (drop-at part (drop need e) need k)
 
-pub byte-need : (n : ℕ) → 2 * n + 16 ≡ byteNeed n
+pub bytes-zeroed : (n : ℕ) (e s : List ℕ) → byteNeed n ≤ length e → s ≡ up (zeroed 0) (2 * n + 16) e → s ≡ cleared (byteNeed n) 0 e
 unfolding byteNeed
-byte-need n = refl
+bytes-zeroed n e s h q = zeroed-is 0 (2 * n + 16) e s h q
 
-pub float-need : (n : ℕ) → 8 * n + 64 ≡ floatNeed n
+pub floats-zeroed : (n : ℕ) (e s : List Float) → floatNeed n ≤ length e → s ≡ up (zeroed +0) (8 * n + 64) e → s ≡ cleared (floatNeed n) +0 e
 unfolding floatNeed
-float-need n = refl
+floats-zeroed n e s h q = zeroed-is +0 (8 * n + 64) e s h q
 
-pub word-need : (n : ℕ) → 2 * n ≡ wordNeed n
+pub words-zeroed : (n : ℕ) (e s : List ℕ) → wordNeed n ≤ length e → s ≡ up (zeroed 0) (2 * n) e → s ≡ cleared (wordNeed n) 0 e
 unfolding wordNeed
-word-need n = refl
+words-zeroed n e s h q = zeroed-is 0 (2 * n) e s h q
 
-pub bytes-clear : (n : ℕ) (e s : List ℕ) → s ≡ cleared (2 * n + 16) 0 e → s ≡ cleared (byteNeed n) 0 e
-bytes-clear n e s q = q ∙ ap (λ m. cleared m 0 e) (byte-need n)
-
-pub floats-clear : (n : ℕ) (e s : List Float) → s ≡ cleared (8 * n + 64) +0 e → s ≡ cleared (floatNeed n) +0 e
-floats-clear n e s q = q ∙ ap (λ m. cleared m +0 e) (float-need n)
-
-pub words-clear : (n : ℕ) (e s : List ℕ) → s ≡ cleared (2 * n) 0 e → s ≡ cleared (wordNeed n) 0 e
-words-clear n e s q = q ∙ ap (λ m. cleared m 0 e) (word-need n)
-
-pub bytes-enough : (n m : ℕ) → byteNeed n ≤ m → 2 * n + 16 ≤ m
+pub bytes-within : (n i : ℕ) (e s : List ℕ) → byteNeed n ≤ length e → length s ≡ length e → i < 2 * n + 16 → i < length s
 unfolding byteNeed
-bytes-enough n m h = h
+bytes-within n i e s h q l = omega arith
 
-pub floats-enough : (n m : ℕ) → floatNeed n ≤ m → 8 * n + 64 ≤ m
+pub floats-within : (n i : ℕ) (e s : List Float) → floatNeed n ≤ length e → length s ≡ length e → i < 8 * n + 64 → i < length s
 unfolding floatNeed
-floats-enough n m h = h
+floats-within n i e s h q l = omega arith
 
-pub words-enough : (n m : ℕ) → wordNeed n ≤ m → 2 * n ≤ m
+pub words-within : (n i : ℕ) (e s : List ℕ) → wordNeed n ≤ length e → length s ≡ length e → i < 2 * n → i < length s
 unfolding wordNeed
-words-enough n m h = h
+words-within n i e s h q l = omega arith
 
-pub ruleset clears = (ups, zeroed-is, bytes-clear, floats-clear, words-clear, bytes-enough, floats-enough, words-enough)
+pub ruleset clears = (ups, bytes-zeroed, floats-zeroed, words-zeroed, bytes-within, floats-within, words-within)

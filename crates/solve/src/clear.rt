@@ -5,11 +5,12 @@ ghost use lib.ListN.{length};
 ghost use Rattle.laws.specs.Binary64.{+0};
 ghost use Rattle.method.specs.Answers.{byteNeed, floatNeed, wordNeed, cleared};
 
-// The first elements of the room of bytes become 0.
-fn clear_bytes(room: &mut [u8], need: usize)
-    requires { ⌜ need ≤ length (now room) ⌝ }
-    ensures { λ _. ⌜ now (room .exit) ≡ cleared need 0 (now (room .entry)) ⌝ }
+// The needed part of the room of bytes, for n cells, becomes 0.
+fn clear_bytes(room: &mut [u8], n: usize)
+    requires { ⌜ (n ≤ 32768) × (byteNeed n ≤ length (now room)) ⌝ }
+    ensures { λ _. ⌜ now (room .exit) ≡ cleared (byteNeed n) 0 (now (room .entry)) ⌝ }
 {
+    let need = 2 * n + 16;
     let mut i = 0;
     while i < need {
         room[i] = 0;
@@ -17,11 +18,12 @@ fn clear_bytes(room: &mut [u8], need: usize)
     }
 }
 
-// The first elements of the binary64 room become +0.0.
-fn clear_floats(room: &mut [f64], need: usize)
-    requires { ⌜ need ≤ length (now room) ⌝ }
-    ensures { λ _. ⌜ now (room .exit) ≡ cleared need +0 (now (room .entry)) ⌝ }
+// The needed part of the binary64 room becomes +0.0.
+fn clear_floats(room: &mut [f64], n: usize)
+    requires { ⌜ (n ≤ 32768) × (floatNeed n ≤ length (now room)) ⌝ }
+    ensures { λ _. ⌜ now (room .exit) ≡ cleared (floatNeed n) +0 (now (room .entry)) ⌝ }
 {
+    let need = 8 * n + 64;
     let mut i = 0;
     while i < need {
         room[i] = 0.0;
@@ -29,11 +31,12 @@ fn clear_floats(room: &mut [f64], need: usize)
     }
 }
 
-// The first elements of the room of words become 0.
-fn clear_words(room: &mut [u32], need: usize)
-    requires { ⌜ need ≤ length (now room) ⌝ }
-    ensures { λ _. ⌜ now (room .exit) ≡ cleared need 0 (now (room .entry)) ⌝ }
+// The needed part of the room of words becomes 0.
+fn clear_words(room: &mut [u32], n: usize)
+    requires { ⌜ (n ≤ 32768) × (wordNeed n ≤ length (now room)) ⌝ }
+    ensures { λ _. ⌜ now (room .exit) ≡ cleared (wordNeed n) 0 (now (room .entry)) ⌝ }
 {
+    let need = 2 * n;
     let mut i = 0;
     while i < need {
         room[i] = 0;
@@ -48,7 +51,7 @@ pub(crate) fn clear(bytes: &mut [u8], floats: &mut [f64], words: &mut [u32], n: 
     ensures { λ _. ⌜ now (floats .exit) ≡ cleared (floatNeed n) +0 (now (floats .entry)) ⌝ }
     ensures { λ _. ⌜ now (words .exit) ≡ cleared (wordNeed n) 0 (now (words .entry)) ⌝ }
 {
-    clear_bytes(bytes, 2 * n + 16);
-    clear_floats(floats, 8 * n + 64);
-    clear_words(words, 2 * n);
+    clear_bytes(bytes, n);
+    clear_floats(floats, n);
+    clear_words(words, n);
 }

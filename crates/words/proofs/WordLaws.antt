@@ -12,7 +12,7 @@ use lib.ListN.{length, getD, set, take, drop, length-set}
 use lib.Seq.{drop-cons, set-at, append-snoc}
 use lib.IntN.{ℤ, pos, negsuc, natAbs, _-ℤ_}
 use lib.Signed.{ltZ, nonNeg, mag}
-use mir.Syntax.{w32}
+use mir.Syntax.{Width, w32}
 use mir.Val.{Fits, SFits, toZ, ofZ}
 use mir.Facts.{toZ-ofZ, toZ-pos, sfits-toZ}
 use Rattle.laws.specs.Lists.{tab}
@@ -60,55 +60,58 @@ module _ (w : ℕ) (h : 2147483648 ≤ w) (f : Fits w32 w) where
   signed-high = toZ-ofZ signed-fits ∙ from-high
 
 -- ---- back to a word
-pub one-minus-neg : (n : ℕ) → negsuc 0 -ℤ negsuc n ≡ pos n
+one-minus-neg : (n : ℕ) → negsuc 0 -ℤ negsuc n ≡ pos n
 one-minus-neg n = rw (le-ltb (suc n) 1 (omega arith)) (ap pos (omega arith))
 
-pub negative : (v : ℤ) → ltZ v (pos 0) ≡ true → v ≡ negsuc (mag v)
+negative : (v : ℤ) → ltZ v (pos 0) ≡ true → v ≡ negsuc (mag v)
 negative (pos n) e = absurd (omega (arith, ltb-true n 0 e))
 negative (negsuc n) e = refl
 
-pub positive : (v : ℤ) → ltZ v (pos 0) ≡ false → v ≡ pos (mag v)
+positive : (v : ℤ) → ltZ v (pos 0) ≡ false → v ≡ pos (mag v)
 positive (pos n) e = refl
 positive (negsuc n) e = absurd (true≢false e)
 
--- v as the code reads it from its bits
-module _ (v : ℤ) (f : SFits w32 v) where
-  same : toZ w32 (ofZ w32 v) ≡ v
+-- v as the code reads it from its bits, at any width
+module _ {w : Width} (v : ℤ) (f : SFits w v) where
+  pub same : toZ w (ofZ w v) ≡ v
   same = toZ-ofZ f
 
-  module _ (e : ltZ (toZ w32 (ofZ w32 v)) (pos 0) ≡ true) where
-    below : v ≡ negsuc (mag v)
+  module _ (e : ltZ (toZ w (ofZ w v)) (pos 0) ≡ true) where
+    pub below : v ≡ negsuc (mag v)
     below = negative v (rw same at e)
 
-    turned : negsuc 0 -ℤ toZ w32 (ofZ w32 v) ≡ pos (mag v)
+    turned : negsuc 0 -ℤ toZ w (ofZ w v) ≡ pos (mag v)
     turned = ap (λ z. negsuc 0 -ℤ z) (same ∙ below) ∙ one-minus-neg (mag v)
 
-    pub turned-fits : SFits w32 (negsuc 0 -ℤ toZ w32 (ofZ w32 v))
+    pub turned-fits : SFits w (negsuc 0 -ℤ toZ w (ofZ w v))
     turned-fits = rw turned (record { sfits = f .sfits })
 
-    turned-read : toZ w32 (ofZ w32 (negsuc 0 -ℤ toZ w32 (ofZ w32 v))) ≡ pos (mag v)
+    pub turned-read : toZ w (ofZ w (negsuc 0 -ℤ toZ w (ofZ w v))) ≡ pos (mag v)
     turned-read = toZ-ofZ turned-fits ∙ turned
 
+  pub above : ltZ (toZ w (ofZ w v)) (pos 0) ≡ false → v ≡ pos (mag v)
+  above e = positive v (rw same at e)
+
+-- an i32 as a word
+module _ (v : ℤ) (f : SFits w32 v) where
+  module _ (e : ltZ (toZ w32 (ofZ w32 v)) (pos 0) ≡ true) where
     pub turned-cast : T (nonNeg (toZ w32 (ofZ w32 (negsuc 0 -ℤ toZ w32 (ofZ w32 v))))) × Fits w32 (natAbs (toZ w32 (ofZ w32 (negsuc 0 -ℤ toZ w32 (ofZ w32 v)))))
-    turned-cast = rw turned-read (tt, record { fits = omega (arith, f .sfits) })
+    turned-cast = rw (turned-read v f e) (tt, record { fits = omega (arith, f .sfits) })
 
     pub turned-small : natAbs (toZ w32 (ofZ w32 (negsuc 0 -ℤ toZ w32 (ofZ w32 v)))) ≤ 4294967295
-    turned-small = rw turned-read (omega (arith, f .sfits))
+    turned-small = rw (turned-read v f e) (omega (arith, f .sfits))
 
     pub word-below : 4294967295 - natAbs (toZ w32 (ofZ w32 (negsuc 0 -ℤ toZ w32 (ofZ w32 v)))) ≡ wordOf v
     unfolding wordOf
-    word-below = rw (turned-read) (omega arith ∙ sym (ap wordOf below))
+    word-below = rw (turned-read v f e) (omega arith ∙ sym (ap wordOf (below v f e)))
 
   module _ (e : ltZ (toZ w32 (ofZ w32 v)) (pos 0) ≡ false) where
-    above : v ≡ pos (mag v)
-    above = positive v (rw same at e)
-
     pub plain-cast : T (nonNeg (toZ w32 (ofZ w32 v))) × Fits w32 (natAbs (toZ w32 (ofZ w32 v)))
-    plain-cast = rw (same, above) (tt, record { fits = omega (arith, f .sfits) })
+    plain-cast = rw (same v f, above v f e) (tt, record { fits = omega (arith, f .sfits) })
 
     pub word-above : natAbs (toZ w32 (ofZ w32 v)) ≡ wordOf v
     unfolding wordOf
-    word-above = ap natAbs (same ∙ above) ∙ sym (ap wordOf above)
+    word-above = ap natAbs (same v f ∙ above v f e) ∙ sym (ap wordOf (above v f e))
 
 -- ---- the four bytes at a place
 four : (l : List ℕ) (at : ℕ) → at + 4 ≤ length l → take 4 (drop at l) ≡ getD l at 0 ∷ getD l (at + 1) 0 ∷ getD l (at + 2) 0 ∷ getD l (at + 3) 0 ∷ []

@@ -18,11 +18,8 @@ digit-count-requires c κs = search lines
 rest-requires-2 : tie.Need-rest-requires-2
 rest-requires-2 c κs = search lines
 
-slice-aggregate-starts : tie.Need-slice-aggregate-starts
-slice-aggregate-starts c = search lines
-
-starts-requires-2 : tie.Need-starts-requires-2
-starts-requires-2 c κs = search lines
+ends-requires : tie.Need-ends-requires
+ends-requires c κs = search lines
 
 returns-2 : tie.Need-returns-2
 returns-2 c = search lines
@@ -33,11 +30,11 @@ is-number-requires c κs = search lines
 value-of-requires : tie.Need-value-of-requires
 value-of-requires c κs = search lines
 
-add-t15 : tie.Need-add-t15
-add-t15 c = search lines
+add-t12 : tie.Need-add-t12
+add-t12 c = search lines
 
-add-t16 : tie.Need-add-t16
-add-t16 c = search lines
+add-t13 : tie.Need-add-t13
+add-t13 c = search lines
 
 returns-3 : tie.Need-returns-3
 returns-3 c = search lines
@@ -54,12 +51,11 @@ number-line-spec =
     rest-requires
     digit-count-requires
     rest-requires-2
-    slice-aggregate-starts
-    starts-requires-2
+    ends-requires
     returns-2
     is-number-requires
     value-of-requires
-    add-t15
-    add-t16
+    add-t12
+    add-t13
     returns-3
     returns-4)

@@ -6,14 +6,11 @@ use Rattle.session.proofs.judge.judge_body.Tie as tie
 cell-count-requires : tie.Need-cell-count-requires
 cell-count-requires c κs = search sized
 
-fault-unless-requires : tie.Need-fault-unless-requires
-fault-unless-requires c κs = search sized
+judge-second-requires : tie.Need-judge-second-requires
+judge-second-requires c κs = search sized
 
-ruled-requires : tie.Need-ruled-requires
-ruled-requires c κs = search sized
-
-judge-content-requires : tie.Need-judge-content-requires
-judge-content-requires c κs = search sized
+judge-rest-requires : tie.Need-judge-rest-requires
+judge-rest-requires c κs = search sized
 
 earlier-requires : tie.Need-earlier-requires
 earlier-requires c κs = search sized
@@ -35,9 +32,8 @@ judge-body-spec =
     tie.close
     (tie.spec
     cell-count-requires
-    fault-unless-requires
-    ruled-requires
-    judge-content-requires
+    judge-second-requires
+    judge-rest-requires
     earlier-requires
     enum-known-number
     enum-told

@@ -8,10 +8,16 @@ use Rattle.solve.proofs.clear.clear_bytes.Statement.{statement}
 use Rattle.solve.proofs.clear.clear_bytes.Tie as tie
 
 abbrev Inv-loop : tie.InvT-loop
-Inv-loop room₀ need i₀ room i = (i ≤ need) × ((length room ≡ length room₀) × Up (zeroed 0) room₀ i room)
+Inv-loop room₀ n need i₀ room i = (i ≤ need) × ((length room ≡ length room₀) × Up (zeroed 0) room₀ i room)
 
 abbrev μ-loop : tie.MeasureT-loop
-μ-loop room₀ need i₀ room i = need - i
+μ-loop room₀ n need i₀ room i = need - i
+
+mul-need : tie.Need-mul-need Inv-loop μ-loop
+mul-need c = search clears
+
+add-need : tie.Need-add-need Inv-loop μ-loop
+add-need c = search clears
 
 loop-holds : tie.Need-loop-holds Inv-loop μ-loop
 loop-holds c = search clears
@@ -40,6 +46,8 @@ clear-bytes-spec =
     (tie.spec
     Inv-loop
     μ-loop
+    mul-need
+    add-need
     loop-holds
     slice-write-room
     add-i

@@ -1,4 +1,4 @@
-use Rattle.solve.proofs.Judging.{contents}
+use Rattle.solve.proofs.Judging.{contents, content-is}
 use borrow.Author.Needs.{needs}
 use Rattle.solve.proofs.judge.judge_content.Statement.{statement}
 use Rattle.solve.proofs.judge.judge_content.Tie as tie
@@ -31,7 +31,17 @@ earlier-requires-2 : tie.Need-earlier-requires-2
 earlier-requires-2 c κs = search needs
 
 returns : tie.Need-returns
-returns c = search contents
+returns c =
+    let joined = c .before in
+    let sixth = joined .before in
+    let none = sixth .before in
+    let air = none .before in
+    let cells = air .before in
+    let third = cells .before in
+    let fault = third .before in
+    let settings = fault .before in
+    content-is _ _ _ _ _ _ _ _ _ _ _ _ _ _ (settings .settings-fit .ensures) (fault .fault-unless .ensures) (third .ruled .ensures)
+    (cells .judge-cells .ensures) (air .interior .ensures) (none .fault-unless2 .ensures) (sixth .ruled2 .ensures) (joined .earlier .ensures) (c .earlier2 .ensures)
 
 pub judge-content-spec : {M : Type 1} → statement M
 judge-content-spec =
