@@ -50,6 +50,6 @@ def first_difference(ours, theirs):
         x, y = (a[k] if k < len(a) else "(nothing)"), (b[k] if k < len(b) else "(nothing)")
         if x != y:
             return f"after {where}: ours {x[:200]}, the separate implementation's {y[:200]}"
-        if x.split("=")[0] in ("session", "writer", "reader"):
+        if x.split("=")[0] in ("session", "call", "writer", "reader"):
             where = x
     return None

@@ -244,7 +244,7 @@ def session_times(commands, whole, runs):
     """The time of one session by each program: the median over runs with several less that over runs with one, the programs in turn."""
     frame = generate.framed(whole)
     once = seconds(commands["separate"], frame)
-    several = max(3, min(400, 1 + int(0.3 / max(once, 0.001))))
+    several = max(2, min(400, 1 + int(0.6 / max(once, 0.001))))
     few, many = collections.defaultdict(list), collections.defaultdict(list)
     for _ in range(runs):
         for name, words in commands.items():

@@ -1,12 +1,15 @@
--- The promise of `read_header` allows one result. Assumes nothing.
-use mathlib.Core.Path.{_≡_, sym, ap, ap₂, _∙_}
-use mathlib.Core.List.{List}
+-- The promises of `read_header` and of `number_line` allow one result. Assumes nothing.
+use mathlib.Core.Path.{_≡_, refl, sym, ap, ap₂, _∙_}
+use mathlib.Core.List.{List, []}
 use Prim.Native.Nat.{ℕ, suc, _≤_}
 use native.Mathlib.Omega.{arith}
 use lib.ListN.{length, drop, length-drop}
 use Rattle.method.specs.declared.Found.{Found}
 use Rattle.method.specs.declared.Found.the-variants.{Nowhere, At}
-use Rattle.header.specs.Lines.{HeaderOf, named, headerIn, wrongIn, startIn}
+use Rattle.method.specs.Form.{Line, bad, good}
+use Rattle.header.specs.Lines.{HeaderOf, LineOf, named, headerIn, wrongIn, startIn, lineOf, taken}
+use Rattle.header.specs.declared.LineRead.{LineRead}
+use Rattle.header.specs.declared.LineRead.the-variants.{NotOfForm, Value}
 use Rattle.header.specs.declared.Header.{Header}
 use Rattle.header.specs.declared.HeaderRead.{HeaderRead}
 use Rattle.header.specs.declared.HeaderRead.the-variants.{Wrong, Named}
@@ -33,3 +36,22 @@ header-one bytes (Named h) (Wrong k) a b = absurd (omega (arith, ap lineNumber (
 header-one bytes (Named h) (Named g) a b =
     let e : named bytes h ≡ named bytes g = sym (a .is) ∙ b .is in
     ap Named (header-eq h g (ap (λ x. x .sides) e) (ap (λ x. x .order) e) (ap (λ x. x .settings) e) (start-one bytes (h .start) (g .start) (a .within) (b .within) (ap (λ x. x .body) e)))
+
+-- a line by one more than its value, or 0, and by what is left behind it
+abbrev valueIn : Line → ℕ
+valueIn bad = 0
+valueIn (good v rest) = suc v
+
+abbrev restIn : Line → List ℕ
+restIn bad = []
+restIn (good v rest) = rest
+
+pub line-one : (reads : List ℕ → Line) (bytes : List ℕ) (r q : LineRead) → LineOf reads bytes r → LineOf reads bytes q → r ≡ q
+unfolding lineOf taken
+line-one reads bytes NotOfForm NotOfForm a b = refl
+line-one reads bytes NotOfForm (Value w m) a b = absurd (omega (arith, ap valueIn (sym (a .is) ∙ b .is)))
+line-one reads bytes (Value v n) NotOfForm a b = absurd (omega (arith, ap valueIn (sym (a .is) ∙ b .is)))
+line-one reads bytes (Value v n) (Value w m) a b =
+    let e : good v (drop n bytes) ≡ good w (drop m bytes) = sym (a .is) ∙ b .is in
+    let same : v ≡ w = omega (arith, ap valueIn e) in
+    ap₂ Value same (start-one bytes n m (a .within) (b .within) (ap restIn e))

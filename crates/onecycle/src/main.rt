@@ -1,6 +1,8 @@
 // Runs the cycle on the casts of standard input, one frame each, and prints each element of the result by its bits. What it prints is compared with what
 // the separate implementation prints. A frame: nx, ny, nz and the number of levels, a byte each; how often the cycle is run, two bytes; one label byte a
 // cell; and b, the eight bytes of a binary64 a cell. Numbers of several bytes have the most significant first.
+use frames::four_at;
+use frames::read_exactly;
 use levels::lists::Lists;
 use levels::sides::Levels;
 use libc::STDIN_FILENO;
@@ -39,29 +41,6 @@ fn number(b: u8) -> usize
 
 fn side(b: u8) -> u32 {
     b as u32
-}
-
-fn wide(b: u8) -> u64
-    ensures { λ r. ⌜ r < 256 ⌝ }
-{
-    b as u64
-}
-
-// The byte at place i, 0 beyond the end.
-fn byte_at(raw: &[u8], i: usize) -> u64
-    ensures { λ r. ⌜ r < 256 ⌝ }
-{
-    if i < raw.len() { wide(raw[i]) } else { 0 }
-}
-
-// The number that the four bytes from a place on make.
-fn four_at(raw: &[u8], i: usize) -> u64
-    requires { ⌜ i < 1000000 ⌝ }
-    ensures { λ r. ⌜ r < 4294967296 ⌝ }
-{
-    let high = byte_at(raw, i) * 256 + byte_at(raw, i + 1);
-    let low = byte_at(raw, i + 2) * 256 + byte_at(raw, i + 3);
-    high * 65536 + low
 }
 
 // The binary64 of a pattern: a NaN for every NaN's.
@@ -175,17 +154,6 @@ fn run(
     levels::labels::all_labels(bytes, labels, l, count);
     let s = levels::lists::all_lists(words, bytes, l, count);
     cycles(room, bytes, words, l, s, count, times);
-}
-
-// So many bytes of the input to the start of the buffer; whether they came.
-fn read_exactly(buffer: &mut [u8], n: usize) -> bool {
-    if n <= buffer.len() {
-        let part = &mut buffer[..n];
-        let read = io::read_full(STDIN_FILENO, part);
-        read == n
-    } else {
-        false
-    }
 }
 
 fn read_head() -> Frame {

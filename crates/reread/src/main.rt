@@ -1,35 +1,21 @@
 // Runs the reader, the writer and the search on the sessions of standard input, each behind four bytes of length, and then makes direct calls of the
 // writer and the reader at the edges of lengths and ranges. What it prints is compared with what the separate implementation prints.
+use frames::byte_at;
+use frames::four_at;
+use frames::line;
+use frames::read_exactly;
 use libc::STDIN_FILENO;
 use libc::STDOUT_FILENO;
 use method::Answer;
 use method::Order;
 use method::Settings;
 use method::Sides;
-ghost use Prim.Native.Nat.{_≤_, _<_};
-ghost use lib.ListN.{length};
+ghost use Prim.Native.Nat.{_≤_};
 
 // A frame of the input: its length, or that there is none.
 enum Frame {
     End,
     Of(usize),
-}
-
-fn wide(b: u8) -> u64 {
-    b as u64
-}
-
-fn number(b: u8) -> usize
-    ensures { λ r. ⌜ r < 256 ⌝ }
-{
-    b as usize
-}
-
-// A key, a number and the line's end.
-fn line(key: &[u8], n: u64) {
-    io::write_all(STDOUT_FILENO, key);
-    io::print_decimal(STDOUT_FILENO, n);
-    io::write_all(STDOUT_FILENO, b"\n");
 }
 
 fn value_line(v: i32) {
@@ -43,7 +29,7 @@ fn value_line(v: i32) {
 
 fn hex_at(bytes: &[u8], i: usize) {
     if i < bytes.len() {
-        io::print_hex(STDOUT_FILENO, wide(bytes[i]), 2);
+        io::print_hex(STDOUT_FILENO, byte_at(bytes, i), 2);
     }
 }
 
@@ -78,7 +64,7 @@ fn header_lines(g: Sides, order: Order, t: Settings) {
 
 fn label_at(labels: &[u8], i: usize) {
     if i < labels.len() {
-        line(b"label=", wide(labels[i]));
+        line(b"label=", byte_at(labels, i));
     }
 }
 
@@ -198,17 +184,6 @@ fn reread(bytes: &[u8], values: &mut [i32], room: &mut [u32], out: &mut [u8]) {
     session_lines(r, labels, values, room, out);
 }
 
-// So many bytes of the input to the start of the buffer; whether they came.
-fn read_exactly(bytes: &mut [u8], n: usize) -> bool {
-    if n <= bytes.len() {
-        let part = &mut bytes[..n];
-        let read = io::read_full(STDIN_FILENO, part);
-        read == n
-    } else {
-        false
-    }
-}
-
 // The next frame of the input, its bytes at the start of the buffer.
 fn next_frame(bytes: &mut [u8]) -> Frame {
     let mut four = [0u8; 4];
@@ -216,9 +191,7 @@ fn next_frame(bytes: &mut [u8]) -> Frame {
     if got != 4 {
         return Frame::End;
     }
-    let high = number(four[0]) * 256 + number(four[1]);
-    let low = number(four[2]) * 256 + number(four[3]);
-    let n = high * 65536 + low;
+    let n = four_at(&four, 0) as usize;
     if read_exactly(bytes, n) {
         Frame::Of(n)
     } else {
