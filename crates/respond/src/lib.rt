@@ -139,7 +139,7 @@ fn answered(
     )
 }
 
-// Puts the print that is due to a session at the front of the output, and answers how many input it has. All else that is lent is scratch.
+// Puts the print that is due to a session at the front of the output, and answers how many bytes it has. All else that is lent is scratch.
 pub fn respond(
     input: &[u8],
     limit: usize,
