@@ -241,16 +241,19 @@ def seconds(words, given):
 
 
 def session_times(commands, whole, runs):
-    """The time of one session by each program: the median over runs with several less that over runs with one, the programs in turn."""
+    """The time of one session by each program, the programs in turn: the median over runs with several copies less that over runs with one. A session that takes
+    half a second is timed by itself, since starting a program takes some milliseconds."""
     frame = generate.framed(whole)
     once = seconds(commands["separate"], frame)
-    several = max(2, min(400, 1 + int(0.6 / max(once, 0.001))))
-    few, many = collections.defaultdict(list), collections.defaultdict(list)
+    copies = 0 if once > 0.5 else min(400, 1 + int(0.6 / max(once, 0.001)))
+    one, more = collections.defaultdict(list), collections.defaultdict(list)
     for _ in range(runs):
         for name, words in commands.items():
-            few[name].append(seconds(words, frame))
-            many[name].append(seconds(words, frame * several))
-    return {name: (statistics.median(many[name]) - statistics.median(few[name])) / (several - 1) for name in commands}
+            one[name].append(seconds(words, frame))
+            more[name].append(seconds(words, frame * (1 + copies)) if copies else 0.0)
+    if not copies:
+        return {name: statistics.median(one[name]) for name in commands}
+    return {name: (statistics.median(more[name]) - statistics.median(one[name])) / copies for name in commands}
 
 
 def measure(options):
