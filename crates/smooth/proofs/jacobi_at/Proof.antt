@@ -1,6 +1,6 @@
 -- `smooth::jacobi_at` meets its contract, by the cell's label. Assumes nothing.
 use borrow.Author.Needs.{needs}
-use Rattle.smooth.proofs.Turns.{turns}
+use Rattle.smooth.proofs.Turns.{turns, jacobi-air}
 use Rattle.smooth.proofs.jacobi_at.Statement.{statement}
 use Rattle.smooth.proofs.jacobi_at.Tie as tie
 
@@ -59,7 +59,7 @@ same-length : tie.Need-same-length
 same-length c = search needs
 
 returns : tie.Need-returns
-returns c = search turns
+returns c = search (jacobi-air)
 
 same-length-2 : tie.Need-same-length-2
 same-length-2 c = search needs

@@ -1,6 +1,6 @@
 -- `smooth::rest_at` meets its contract, by what `gather` ensures. Assumes nothing.
 use borrow.Author.Needs.{needs}
-use Rattle.smooth.proofs.Turns.{turns}
+use Rattle.smooth.proofs.Turns.{turns, rest-is}
 use Rattle.smooth.proofs.rest_at.Statement.{statement}
 use Rattle.smooth.proofs.rest_at.Tie as tie
 
@@ -17,7 +17,7 @@ shared-slice-read-x : tie.Need-shared-slice-read-x
 shared-slice-read-x c = search needs
 
 returns : tie.Need-returns
-returns c = (search turns, search turns)
+returns c = (search turns, search (rest-is))
 
 pub rest-at-spec : {M : Type 1} → statement M
 rest-at-spec =

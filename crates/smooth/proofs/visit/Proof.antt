@@ -1,6 +1,6 @@
 -- `smooth::visit` meets its contract, by the label. Assumes nothing.
 use borrow.Author.Needs.{needs}
-use Rattle.smooth.proofs.Sums.{visits}
+use Rattle.smooth.proofs.Sums.{visits, counted, not-counted}
 use Rattle.smooth.proofs.visit.Statement.{statement}
 use Rattle.smooth.proofs.visit.Tie as tie
 
@@ -23,10 +23,10 @@ add-t12 : tie.Need-add-t12
 add-t12 c = search needs
 
 returns-2 : tie.Need-returns-2
-returns-2 c = (search visits, (search visits, search visits))
+returns-2 c = (search (counted), (search visits, search visits))
 
 returns-3 : tie.Need-returns-3
-returns-3 c = (search visits, (search visits, search visits))
+returns-3 c = (search (not-counted), (search visits, search visits))
 
 pub visit-spec : {M : Type 1} → statement M
 visit-spec =

@@ -1,6 +1,6 @@
 -- `trial::whole_at` meets its contract: by the label. Assumes nothing.
 use borrow.Author.Needs.{needs}
-use Rattle.trial.proofs.Laws.{pressed}
+use Rattle.trial.proofs.Laws.{pressed, pressure-air}
 use Rattle.trial.proofs.whole_at.Statement.{statement}
 use Rattle.trial.proofs.whole_at.Tie as tie
 
@@ -14,7 +14,7 @@ whole-back-requires : tie.Need-whole-back-requires
 whole-back-requires c κs = search needs
 
 returns : tie.Need-returns
-returns c = search pressed
+returns c = search (pressure-air)
 
 mul-wide : tie.Need-mul-wide
 mul-wide c = search needs

@@ -1,4 +1,5 @@
 -- `levels::labels::with_child` meets its contract, by its tests. Assumes nothing.
+use borrow.Author.Tests.{eq-eqb, ne-eqb}
 use Rattle.laws.proofs.Loops.{branches}
 use Rattle.levels.specs.Kin.{outrank}
 use Rattle.levels.proofs.labels.with_child.Statement.{statement}
@@ -14,7 +15,7 @@ returns-2 c = search branches
 
 returns-3 : tie.Need-returns-3
 unfolding outrank
-returns-3 c = search branches
+returns-3 c = search (eq-eqb, ne-eqb)
 
 returns-4 : tie.Need-returns-4
 unfolding outrank

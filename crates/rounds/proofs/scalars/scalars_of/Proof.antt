@@ -1,4 +1,4 @@
-use Rattle.rounds.proofs.Turns.{turns}
+use Rattle.rounds.proofs.Turns.{turns, scaled-is}
 use borrow.Author.Needs.{needs}
 use Rattle.rounds.proofs.scalars.scalars_of.Statement.{statement}
 use Rattle.rounds.proofs.scalars.scalars_of.Tie as tie
@@ -19,7 +19,7 @@ same-length : tie.Need-same-length
 same-length c = search needs
 
 returns : tie.Need-returns
-returns c = search turns
+returns c = search (scaled-is)
 
 pub scalars-of-spec : {M : Type 1} → statement M
 scalars-of-spec =
