@@ -3,9 +3,9 @@ use mathlib.Core.Path.{_≡_, refl, sym, ap, ap₂, _∙_}
 use mathlib.Core.Logic.{⊎-elim}
 use mathlib.Core.Bool.{Bool, true, false, not, _&&_, _||_, cond}
 use mathlib.Core.List.{List, map, _∷_, _++_, append-nil}
-use Prim.Native.Nat.{ℕ, zero, suc, _+_, _^_, _≤_, _<_}
+use Prim.Native.Nat.{ℕ, zero, suc, max, _+_, _^_, _≤_, _<_}
+use native.Mathlib.Nat.{eq-or-lt-of-le, le-of-suc-le-suc}
 use native.Mathlib.Omega.{arith}
-use borrow.Author.Needs.{needs}
 use borrow.Author.Tests.{eq-eqb, ne-eqb, le-leb, lt-leb}
 use lib.Dec.{eqb, leb}
 use lib.IntN.{ℤ, pos, natAbs}
@@ -20,25 +20,29 @@ use Rattle.laws.specs.Whole.{_+ᶻ_}
 use Rattle.laws.proofs.Naturals.{le-or-lt}
 use Rattle.laws.proofs.Lists.{getD-tab}
 use Rattle.laws.proofs.Zed.{abs-add}
-use Rattle.laws.proofs.Fill.{tab-same, up-same}
+use Rattle.laws.proofs.Fill.{tab-same}
 use Rattle.laws.proofs.Fills.{filled-front}
-use Rattle.laws.proofs.Loops.{up-first}
+use Rattle.laws.proofs.Loops.{Up, ups, up-first, up-more, up-end}
 use Rattle.method.specs.declared.Sides.{Sides}
 use Rattle.method.specs.declared.Settings.{Settings}
+use Rattle.method.specs.declared.Found.{Found}
+use Rattle.method.specs.declared.Found.the-variants.{Nowhere, At}
 use Rattle.method.specs.declared.Tick.{Tick}
 use Rattle.method.specs.declared.Tick.the-variants.{Whole, Refused}
-use Rattle.method.specs.Cast.{cells, labelAt, isAir, isOpening, field, level, worst}
+use Rattle.method.specs.Cast.{cells, labelAt, isAir, isOpening, field, level, judged, residual, worst, orElse, first}
 use Rattle.method.specs.Levels.{value}
 use Rattle.method.specs.Rounds.{tick, ticks, isRefused, wholeOf, rounded, passes}
+use Rattle.theory.proofs.Firsts.{None, none-none, none-end, hit, first-cong}
 use Rattle.theory.proofs.Pressures.{length-rounded}
 use Rattle.grid.proofs.Steps.{label-out}
 use Rattle.whole.proofs.Laws.{wholes, abs-32}
 use Rattle.ticks.specs.declared.Faces.{Faces}
+use Rattle.ticks.specs.Worst.{worstStep}
 use Rattle.ticks.proofs.TickWhole.{tick-within}
-use Rattle.ticks.proofs.Laws.{walks, Gathering, gathering-next, count-open, count-wall, sum-open, sum-wall}
+use Rattle.ticks.proofs.Laws.{walks, Gathering, gathering-next, count-open, count-wall, sum-open, sum-wall, worst-is}
 use Rattle.trial.specs.declared.Tested.the-variants.{Passed, Failed}
 use Rattle.trial.specs.Trial.{tested}
-use Rattle.trial.specs.Cells.{roundedOn, pressureBy, Pressure, Added, refusedStep}
+use Rattle.trial.specs.Cells.{roundedOn, pressureBy, Pressure, Added, refusedAt}
 
 -- ---- a cell's pressure, by its label
 whole-within : (x : Float) → natAbs (wholeOf (tick x)) ≤ 2 ^ 41
@@ -105,10 +109,6 @@ or-false : (b : Bool) → b ≡ (b || false)
 or-false true = refl
 or-false false = refl
 
-or-true : (b : Bool) → true ≡ (b || true)
-or-true true = refl
-or-true false = refl
-
 or-assoc : (a b c : Bool) → ((a || b) || c) ≡ (a || (b || c))
 or-assoc true b c = refl
 or-assoc false b c = refl
@@ -119,35 +119,54 @@ unfolding any tab up
 any-up p zero f b = or-false b
 any-up p (suc n) f b = up-first (λ c s. s || p (f c)) n b ∙ any-up p n (λ k. f (suc k)) (b || p (f 0)) ∙ or-assoc b (p (f 0)) (any p (tab n (λ k. f (suc k))))
 
-refused-cond : (air b : Bool) (t : Tick) (z : ℤ) → cond air (b || isRefused t) b ≡ (b || isRefused (cond air t (Whole z)))
+-- .. and some element passes where there is a first that does
+met : Found → Bool
+met Nowhere = false
+met (At c) = true
+
+met-else : (f : Found) (b : Bool) (n : ℕ) → (met f || b) ≡ met (orElse f (cond b (At n) Nowhere))
+unfolding orElse met
+met-else (At c) b n = refl
+met-else Nowhere true n = refl
+met-else Nowhere false n = refl
+
+any-first : {A : Type 0} (p : A → Bool) (n : ℕ) (f : ℕ → A) → any p (tab n f) ≡ met (first (λ c. p (f c)) n)
+unfolding up first met
+any-first p n f = sym (any-up p n f false) ∙ go n
+  where
+    go : (n : ℕ) → up (λ c s. s || p (f c)) n false ≡ met (first (λ c. p (f c)) n)
+    go zero = refl
+    go (suc n) = ap (λ b. b || p (f n)) (go n) ∙ met-else (first (λ c. p (f c)) n) (p (f n)) n
+
+refused-cond : (air : Bool) (t : Tick) (z : ℤ) → isRefused (cond air t (Whole z)) ≡ (air && isRefused t)
 unfolding isRefused
-refused-cond true b t z = refl
-refused-cond false b t z = or-false b
+refused-cond true t z = refl
+refused-cond false t z = refl
 
 some-refused : (g : Sides) (ls : List ℕ) (vs : List ℤ) (x : List Float) → length ls ≡ cells g
-    → up (refusedStep ls x) (length ls) false ≡ any isRefused (ticks (record { sides = g; labels = ls; values = vs }) x)
-unfolding refusedStep ticks
+    → any isRefused (ticks (record { sides = g; labels = ls; values = vs }) x) ≡ met (first (refusedAt ls x) (length ls))
+unfolding refusedAt ticks
 some-refused g ls vs x e =
-    ap (λ n. up (refusedStep ls x) n false) e
-    ∙ up-same _ _ false (cells g) (λ c b l. refused-cond (isAir ls c) b (tick (value x c)) (level ls vs c))
-    ∙ any-up isRefused (cells g) (λ c. cond (isAir ls c) (tick (value x c)) (Whole (level ls vs c))) false
+    any-first isRefused (cells g) (λ c. cond (isAir ls c) (tick (value x c)) (Whole (level ls vs c)))
+    ∙ ap met (first-cong _ _ (cells g) (λ c l. refused-cond (isAir ls c) (tick (value x c)) (level ls vs c)))
+    ∙ ap (λ n. met (first (refusedAt ls x) n)) (sym e)
 
 -- one cell, by its label l
-module _ (ls : List ℕ) (x : List Float) (c l : ℕ) (b : Bool) (e : l ≡ labelAt ls c) where
-  refused-air : (t : Tick) → l ≡ 0 → t ≡ tick (value x c) → (b || isRefused t) ≡ refusedStep ls x c b
-  unfolding refusedStep isAir
-  refused-air t k q = rw (eq-eqb (labelAt ls c) 0 (omega arith)) (ap (λ u. b || isRefused u) q)
+module _ (ls : List ℕ) (x : List Float) (c l : ℕ) (e : l ≡ labelAt ls c) where
+  refused-air : (t : Tick) → l ≡ 0 → t ≡ tick (value x c) → isRefused t ≡ refusedAt ls x c
+  unfolding refusedAt isAir
+  refused-air t k q = rw (eq-eqb (labelAt ls c) 0 (omega arith)) (ap isRefused q)
 
-  pub refused-kept : (t : Tick) (z : ℤ) → l ≡ 0 → t ≡ tick (value x c) → t ≡ Whole z → b ≡ refusedStep ls x c b
+  pub refused-kept : (t : Tick) (z : ℤ) → l ≡ 0 → t ≡ tick (value x c) → t ≡ Whole z → false ≡ refusedAt ls x c
   unfolding isRefused
-  refused-kept t z k q w = or-false b ∙ ap (λ u. b || isRefused u) (sym w) ∙ refused-air t k q
+  refused-kept t z k q w = ap isRefused (sym w) ∙ refused-air t k q
 
-  pub refused-lost : (t : Tick) → l ≡ 0 → t ≡ tick (value x c) → t ≡ Refused → true ≡ refusedStep ls x c b
+  pub refused-lost : (t : Tick) → l ≡ 0 → t ≡ tick (value x c) → t ≡ Refused → true ≡ refusedAt ls x c
   unfolding isRefused
-  refused-lost t k q w = or-true b ∙ ap (λ u. b || isRefused u) (sym w) ∙ refused-air t k q
+  refused-lost t k q w = ap isRefused (sym w) ∙ refused-air t k q
 
-  pub refused-not : (l ≡ 0 → ⊥) → b ≡ refusedStep ls x c b
-  unfolding refusedStep isAir
+  pub refused-not : (l ≡ 0 → ⊥) → false ≡ refusedAt ls x c
+  unfolding refusedAt isAir
   refused-not k = rw (ne-eqb (labelAt ls c) 0 (λ z. k (e ∙ z)))
 
 -- ---- a cell across a face, by its label l
@@ -174,26 +193,57 @@ label-inside ls j l e k = ⊎-elim (λ b. absurd (omega (arith, label-out ls j b
 pub gathering-added : {ls : List ℕ} {ps : List ℤ} {near : List ℕ} {i : ℕ} {a r : Faces} → Gathering ls ps near i a → Added ls ps (getD near i 0) a r → Gathering ls ps near (i + 1) r
 gathering-added h v = gathering-next (v .small) h (v .visited)
 
--- ---- the verdict
-module _ (g : Sides) (ls : List ℕ) (vs : List ℤ) (x : List Float) (t : Settings) (b : Bool) (long : length ls ≡ cells g) (e : b ≡ up (refusedStep ls x) (length ls) false) where
-  passes-is : (w : ℕ) → w ≡ worst (record { sides = g; labels = ls; values = vs }) (roundedOn g ls vs x)
-      → passes (record { sides = g; labels = ls; values = vs }) t x ≡ (not b && leb w (t .tolerance))
+-- ---- the worst so far grows with the cells
+module _ (g : Sides) (ls : List ℕ) (vs ps : List ℤ) where
+  worst-step : (c w : ℕ) → w ≤ worstStep g ls vs ps c w
+  unfolding worstStep
+  worst-step c w = go (judged ls c)
+    where
+      go : (b : Bool) → w ≤ cond b (max w (natAbs (residual g ls (field vs) (field ps) c))) w
+      go true = omega arith
+      go false = omega arith
+
+  worst-grows : (c n : ℕ) → c ≤ n → up (worstStep g ls vs ps) c 0 ≤ up (worstStep g ls vs ps) n 0
+  unfolding up
+  worst-grows c zero h = let e : c ≡ 0 = omega arith in rw e (omega arith)
+  worst-grows c (suc n) h = ⊎-elim
+      (λ e. rw e (omega arith))
+      (λ l. omega (arith, worst-grows c n (le-of-suc-le-suc l), worst-step n (up (worstStep g ls vs ps) n 0)))
+      (eq-or-lt-of-le h)
+
+-- ---- the verdict: at a cell that fails, and after the last one
+module _ (g : Sides) (ls : List ℕ) (vs : List ℤ) (x : List Float) (t : Settings) (c : ℕ) (long : length ls ≡ cells g) where
+  passes-is : (f : Found) (w : ℕ) → f ≡ first (refusedAt ls x) (length ls) → w ≡ up (worstStep g ls vs (roundedOn g ls vs x)) (length ls) 0
+      → passes (record { sides = g; labels = ls; values = vs }) t x ≡ (not (met f) && leb w (t .tolerance))
   unfolding passes
-  passes-is w q = ap₂ (λ u v. not u && leb v (t .tolerance)) (sym (e ∙ some-refused g ls vs x long)) (sym q)
+  passes-is f w e q =
+      ap₂ (λ u v. not u && leb v (t .tolerance)) (some-refused g ls vs x long ∙ ap met (sym e)) (sym (worst-is g ls vs (roundedOn g ls vs x) w long q))
 
-  pub refused-fails : b ≡ true → Failed ≡ tested (record { sides = g; labels = ls; values = vs }) t x
-  unfolding tested
-  refused-fails k = rw (passes-is _ refl, k)
+  pub refused-fails : (b : Bool) → c < length ls → None (refusedAt ls x) c → b ≡ refusedAt ls x c → b ≡ true
+      → Failed ≡ tested (record { sides = g; labels = ls; values = vs }) t x
+  unfolding tested met
+  refused-fails b l h e k = rw (passes-is (At c) _ (hit (refusedAt ls x) c (length ls) b l h e k) refl)
 
-  pub within-passes : (w : ℕ) → b ≡ false → w ≡ worst (record { sides = g; labels = ls; values = vs }) (roundedOn g ls vs x) → w ≤ t .tolerance
-      → Passed w ≡ tested (record { sides = g; labels = ls; values = vs }) t x
-  unfolding tested
-  within-passes w k q h = rw (passes-is w q, k, le-leb w (t .tolerance) h) (ap Passed q)
-
-  pub beyond-fails : (w : ℕ) → b ≡ false → w ≡ worst (record { sides = g; labels = ls; values = vs }) (roundedOn g ls vs x) → t .tolerance < w
+  pub beyond-fails : (w v : ℕ) → c < length ls → Up (worstStep g ls vs (roundedOn g ls vs x)) 0 c w → v ≡ worstStep g ls vs (roundedOn g ls vs x) c w → t .tolerance < v
       → Failed ≡ tested (record { sides = g; labels = ls; values = vs }) t x
   unfolding tested
-  beyond-fails w k q h = rw (passes-is w q, k, lt-leb w (t .tolerance) h)
+  beyond-fails w v l h e k =
+      let n : v ≡ up (worstStep g ls vs (roundedOn g ls vs x)) (c + 1) 0 = up-more h e .is in
+      let m : t .tolerance < up (worstStep g ls vs (roundedOn g ls vs x)) (length ls) 0 =
+      omega (arith, worst-grows g ls vs (roundedOn g ls vs x) (c + 1) (length ls) (omega arith)) in
+      rw (passes-is _ _ refl refl, lt-leb _ (t .tolerance) m) (no (not (met (first (refusedAt ls x) (length ls)))))
+    where
+      no : (b : Bool) → Failed ≡ cond (b && false) (Passed (worst (record { sides = g; labels = ls; values = vs }) (roundedOn g ls vs x))) Failed
+      no true = refl
+      no false = refl
+
+  pub within-passes : (w : ℕ) → c ≤ length ls → length ls ≤ c → None (refusedAt ls x) c → Up (worstStep g ls vs (roundedOn g ls vs x)) 0 c w → w ≤ t .tolerance
+      → Passed w ≡ tested (record { sides = g; labels = ls; values = vs }) t x
+  unfolding tested met
+  within-passes w a b h u k =
+      let q : w ≡ up (worstStep g ls vs (roundedOn g ls vs x)) (length ls) 0 = up-end (length ls) u a b in
+      rw (passes-is Nowhere w (none-end (refusedAt ls x) c (length ls) a b h) q, le-leb w (t .tolerance) k)
+      (ap Passed (worst-is g ls vs (roundedOn g ls vs x) w long q))
 
 -- ---- the pressures, written down
 abbrev pub writing : List ℕ → List ℤ → List Float → ℕ → List ℤ → List ℤ
@@ -216,4 +266,6 @@ pub ruleset pressed = (wholes, pressure-air, pressure-opening, pressure-wall, la
 
 pub ruleset gathers = (walks, gathering-added)
 
-pub ruleset verdicts = (needs, refused-kept, refused-lost, refused-not, refused-fails, within-passes, beyond-fails)
+pub ruleset turns = (ups, none-none)
+
+pub ruleset verdicts = (ups, refused-kept, refused-lost, refused-not, refused-fails, beyond-fails, within-passes)

@@ -1,6 +1,6 @@
 -- The test cell by cell: a cell's pressure by its label, what a cell across a face adds, whether a tick is refused.
 use Prim.Native.Nat.{ℕ, zero, suc, _+_, _^_, _≤_}
-use mathlib.Core.Bool.{Bool, _||_, cond}
+use mathlib.Core.Bool.{Bool, _&&_}
 use mathlib.Core.Path.{_≡_}
 use mathlib.Core.List.{List}
 use lib.IntN.{ℤ, pos, natAbs}
@@ -31,6 +31,6 @@ pub record Added (ls : List ℕ) (ps : List ℤ) (j : ℕ) (a r : Faces) : Type 
   pub visited : Visited ls ps j a r
   pub small : natAbs (r .sum) ≤ natAbs (a .sum) + 2 ^ 41
 
--- whether a tick was refused before cell c, or is there
-unfoldable pub refusedStep : List ℕ → List Float → ℕ → Bool → Bool
-refusedStep ls x c b = cond (isAir ls c) (b || isRefused (tick (value x c))) b
+-- whether the tick of cell c is refused, where c is air
+unfoldable pub refusedAt : List ℕ → List Float → ℕ → Bool
+refusedAt ls x c = isAir ls c && isRefused (tick (value x c))

@@ -1,18 +1,16 @@
 // Document 01's test of a round: x rounded to whole ticks, and judged by the exact residuals that these leave. Each tick is taken
 // from x where it is wanted, so the test needs no room.
 ghost use mathlib.Core.Path.{_≡_};
-ghost use mathlib.Core.Bool.{false};
 ghost use Prim.Native.Nat.{_≤_, _<_, _^_};
 ghost use lib.IntN.{natAbs};
 ghost use lib.ListN.{length, set};
-ghost use Rattle.laws.specs.Loops.{up};
-ghost use Rattle.method.specs.Cast.{cells, labelAt, field, worst};
+ghost use Rattle.method.specs.Cast.{cells, labelAt, field};
 ghost use Rattle.method.specs.Levels.{value};
 ghost use Rattle.method.specs.Rounds.{rounded};
 ghost use Rattle.ticks.specs.Faces.{Gathered, Residual};
 ghost use Rattle.ticks.specs.Worst.{worstStep};
 ghost use Rattle.trial.specs.Trial.{Asked, tested};
-ghost use Rattle.trial.specs.Cells.{roundedOn, pressureBy, Pressure, Added, refusedStep};
+ghost use Rattle.trial.specs.Cells.{roundedOn, pressureBy, Pressure, Added, refusedAt};
 use grid::near::label_at;
 use method::Settings;
 use method::Sides;
@@ -95,63 +93,40 @@ fn worst_at(g: Sides, labels: &[u8], values: &[i32], x: &[f64], c: usize, w: u64
     w
 }
 
-// The greatest size of a residual at an air cell.
-fn worst_of(g: Sides, labels: &[u8], values: &[i32], x: &[f64]) -> u64
-    requires { ⌜ Asked g (now labels) (now values) (now x) ⌝ }
-    ensures { λ r. ⌜ r ≡ worst (record { sides = g; labels = now (labels .entry); values = now (values .entry) }) (roundedOn g (now (labels .entry)) (now (values .entry)) (now (x .entry))) ⌝ }
-{
-    let mut w = 0;
-    let mut c = 0;
-    while c < labels.len() {
-        w = worst_at(g, labels, values, x, c, w);
-        c += 1;
-    }
-    w
-}
-
-// Whether a tick was refused before cell c, or is at c, where c is air.
-fn refused_at(labels: &[u8], x: &[f64], c: usize, before: bool) -> bool
+// Whether the tick of cell c is refused, where c is air.
+fn refused_at(labels: &[u8], x: &[f64], c: usize) -> bool
     requires { ⌜ c < length (now x) ⌝ }
-    ensures { λ r. ⌜ r ≡ refusedStep (now (labels .entry)) (now (x .entry)) c before ⌝ }
+    ensures { λ r. ⌜ r ≡ refusedAt (now (labels .entry)) (now (x .entry)) c ⌝ }
 {
     if label_at(labels, c) != 0 {
-        return before;
+        return false;
     }
     match ticks::tick::to_tick(x[c]) {
-        Tick::Whole(_) => before,
+        Tick::Whole(_) => false,
         Tick::Refused => true,
     }
 }
 
-// Whether some tick is refused.
-fn some_refused(labels: &[u8], x: &[f64]) -> bool
-    requires { ⌜ length (now x) ≡ length (now labels) ⌝ }
-    ensures { λ r. ⌜ r ≡ up (refusedStep (now (labels .entry)) (now (x .entry))) (length (now (labels .entry))) false ⌝ }
-{
-    let mut refused = false;
-    let mut c = 0;
-    while c < labels.len() {
-        refused = refused_at(labels, x, c, refused);
-        c += 1;
-    }
-    refused
-}
-
-// The test: every tick is kept, and the worst residual is within the tolerance.
+// The test, left at the first air cell that fails it: its tick is refused, or its residual is beyond the tolerance. The worst so far
+// is within the tolerance, so it is beyond it only where cell c's residual is.
 pub fn test(g: Sides, labels: &[u8], values: &[i32], x: &[f64], settings: Settings) -> Tested
     requires { ⌜ Asked g (now labels) (now values) (now x) × (settings .tolerance ≤ 1000000) ⌝ }
     ensures { λ r. ⌜ r ≡ tested (record { sides = g; labels = now (labels .entry); values = now (values .entry) }) settings (now (x .entry)) ⌝ }
 {
-    if some_refused(labels, x) {
-        return Tested::Failed;
-    }
-    let w = worst_of(g, labels, values, x);
     let tolerance = settings.tolerance as u64;
-    if w <= tolerance {
-        Tested::Passed(w as u32)
-    } else {
-        Tested::Failed
+    let mut w = 0;
+    let mut c = 0;
+    while c < labels.len() {
+        if refused_at(labels, x, c) {
+            return Tested::Failed;
+        }
+        w = worst_at(g, labels, values, x, c, w);
+        if tolerance < w {
+            return Tested::Failed;
+        }
+        c += 1;
     }
+    Tested::Passed(w as u32)
 }
 
 // The pressure of cell c, written down.

@@ -1,46 +1,70 @@
--- `trial::test` meets its contract: by the two tests. Assumes nothing.
-use Prim.Native.Nat.{_≤_, _<_}
-use native.Mathlib.Omega.{arith}
-use borrow.Author.Needs.{needs}
-use Rattle.trial.proofs.Laws.{verdicts}
+-- `trial::test` meets its contract: no tick before cell c is refused, and the worst among the first c cells is within the tolerance. Assumes nothing.
+use Prim.Native.Nat.{_≤_, _-_}
+use lib.ListN.{length}
+use Rattle.laws.proofs.Loops.{Up}
+use Rattle.theory.proofs.Firsts.{None, none-more}
+use Rattle.ticks.specs.Worst.{worstStep}
+use Rattle.trial.specs.Cells.{roundedOn, refusedAt}
+use Rattle.trial.proofs.Laws.{turns, verdicts}
 use Rattle.trial.proofs.test.Statement.{statement}
 use Rattle.trial.proofs.test.Tie as tie
 
-some-refused-requires : tie.Need-some-refused-requires
-some-refused-requires c κs = search needs
+abbrev Inv-loop : tie.InvT-loop
+Inv-loop g labels values x tolerance w₀ c₀ w c =
+    (c ≤ length labels) × (w ≤ tolerance) × None (refusedAt labels x) c × Up (worstStep g labels values (roundedOn g labels values x)) 0 c w
 
-returns : tie.Need-returns
+abbrev μ-loop : tie.MeasureT-loop
+μ-loop g labels values x tolerance w₀ c₀ w c = length labels - c
+
+cast-tolerance : tie.Need-cast-tolerance Inv-loop μ-loop
+cast-tolerance c = search turns
+
+loop-holds : tie.Need-loop-holds Inv-loop μ-loop
+loop-holds c = search turns
+
+refused-at-requires : tie.Need-refused-at-requires Inv-loop μ-loop
+refused-at-requires c κs = search turns
+
+returns : tie.Need-returns Inv-loop μ-loop
 returns c = search verdicts
 
-worst-of-requires : tie.Need-worst-of-requires
-worst-of-requires c κs = search needs
+worst-at-requires : tie.Need-worst-at-requires Inv-loop μ-loop
+worst-at-requires c κs = search turns
 
-cast-tolerance : tie.Need-cast-tolerance
-cast-tolerance c = search needs
+returns-2 : tie.Need-returns-2 Inv-loop μ-loop
+returns-2 c = search verdicts
 
-cast-t11 : tie.Need-cast-t11
-cast-t11 c = search needs
+add-c : tie.Need-add-c Inv-loop μ-loop
+add-c c = search turns
 
-returns-2 : tie.Need-returns-2
-returns-2 c =
-    let s = c .before .before .before .before .before .before .before in
-    let k : c .before .before .worst-of .result ≤ s .args .settings .tolerance = omega arith in
-    search verdicts
+loop-less : tie.Need-loop-less Inv-loop μ-loop
+loop-less c = search turns
 
-returns-3 : tie.Need-returns-3
-returns-3 c =
-    let s = c .before .before .before .before .before .before .before in
-    let k : s .args .settings .tolerance < c .before .before .worst-of .result = omega arith in
-    search verdicts
+loop-again : tie.Need-loop-again Inv-loop μ-loop
+loop-again c =
+    let r = c .before .before .before .refused-at in
+    (search turns, search turns, none-more _ _ (r .result) (search turns) (r .ensures) (search turns), search turns)
+
+cast-t12 : tie.Need-cast-t12 Inv-loop μ-loop
+cast-t12 c = search turns
+
+returns-3 : tie.Need-returns-3 Inv-loop μ-loop
+returns-3 c = search verdicts
 
 pub test-spec : {M : Type 1} → statement M
 test-spec =
     tie.close
     (tie.spec
-    some-refused-requires
-    returns
-    worst-of-requires
+    Inv-loop
+    μ-loop
     cast-tolerance
-    cast-t11
+    loop-holds
+    refused-at-requires
+    returns
+    worst-at-requires
     returns-2
+    add-c
+    loop-less
+    loop-again
+    cast-t12
     returns-3)
