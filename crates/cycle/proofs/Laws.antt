@@ -17,7 +17,6 @@ use mir.Syntax.{w64}
 use mir.Val.{Fits}
 use lib.Ieee.{Float}
 use Rattle.laws.specs.Loops.{up}
-use Rattle.laws.specs.Lists.{chosen}
 use Rattle.laws.proofs.Loops.{ups}
 use Rattle.laws.proofs.Fill.{up-same, part-take, part-drop}
 use Rattle.laws.proofs.Fills.{up-keeps, up-front}
@@ -25,12 +24,13 @@ use Rattle.method.specs.declared.Sides.{Sides}
 use Rattle.method.specs.Cast.{cells, isAir}
 use Rattle.method.specs.Levels.{halved, coarse, inBand, restricted}
 use Rattle.method.specs.Cycle.{times, sweeps, ascending, descending, jacobi, residue, zeros, coarsest, downstroke}
+use Rattle.theory.specs.Waves.{waves}
 use Rattle.theory.proofs.Children.{band-air}
 use Rattle.smooth.specs.Fields.{u-of, b-of, t-of, Level, Laid}
 use Rattle.smooth.specs.Sweeps.{sweptUp, sweptDown, Below}
 use Rattle.smooth.proofs.Fields.{laid, laid-u, laid-b, laid-t, laid-rest, laid-follows}
 use Rattle.smooth.proofs.After.{after-jacobi, after-residual, zeros-length, inAir-length, sweptUp-length, sweptDown-length}
-use Rattle.smooth.proofs.Sweeps.{chosen-ascending, chosen-descending, chosen-below}
+use Rattle.smooth.proofs.Sweeps.{waves-ascending, waves-descending, waves-in}
 use Rattle.transfer.specs.Transfer.{TwoLevels, restrictedRoom}
 use Rattle.cycle.specs.Strokes.{swept, sweepTurn, sweptRoom, coarsestTurn, Put, rising, Lowered}
 
@@ -175,21 +175,21 @@ times-same : (k : ℕ) (f h : List Float → List Float) (u : List Float) → ((
 unfolding times
 times-same k f h u q = up-same (λ i. f) (λ i. h) u k (λ i v l. q v)
 
-module _ (g : Sides) (ls cs : List ℕ) (at : ℕ → Bool) (air : (c : ℕ) → at c ≡ true → isAir ls c ≡ true) (q : cs ≡ chosen at (cells g)) (k : ℕ) (b u : List Float) where
+module _ (g : Sides) (ls cs : List ℕ) (at : ℕ → Bool) (air : (c : ℕ) → at c ≡ true → isAir ls c ≡ true) (q : cs ≡ waves g at) (k : ℕ) (b u : List Float) where
   times-up : times k (swept true g ls cs b) u ≡ times k (ascending g ls at b) u
   unfolding swept
-  times-up = times-same k (swept true g ls cs b) (ascending g ls at b) u (λ v. ap (λ c. sweptUp g ls c b v) q ∙ chosen-ascending g ls at air b v)
+  times-up = times-same k (swept true g ls cs b) (ascending g ls at b) u (λ v. ap (λ c. sweptUp g ls c b v) q ∙ waves-ascending g ls at air b v)
 
   times-down : times k (swept false g ls cs b) u ≡ times k (descending g ls at b) u
   unfolding swept
-  times-down = times-same k (swept false g ls cs b) (descending g ls at b) u (λ v. ap (λ c. sweptDown g ls c b v) q ∙ chosen-descending g ls at air b v)
+  times-down = times-same k (swept false g ls cs b) (descending g ls at b) u (λ v. ap (λ c. sweptDown g ls c b v) q ∙ waves-descending g ls at air b v)
 
 -- ---- THE STROKES
-pub below-chosen : (at : ℕ → Bool) (n : ℕ) (cs : List ℕ) → cs ≡ chosen at n → Below n cs
-below-chosen at n cs q = rw q (chosen-below at n)
+pub below-waves : (g : Sides) (at : ℕ → Bool) (cs : List ℕ) → cs ≡ waves g at → Below (cells g) cs
+below-waves g at cs q = rw q (waves-in g at)
 
 module _ (g : Sides) (ls cs : List ℕ) (e d x : List Float) (z : Level g ls e) (long : length d ≡ length e) where
-  module _ (k m : ℕ) (count : m ≡ sweeps k) (q : cs ≡ chosen (inBand g ls) (cells g)) where
+  module _ (k m : ℕ) (count : m ≡ sweeps k) (q : cs ≡ waves g (inBand g ls)) where
     pub downstroke-is : u-of (cells g) e ≡ zeros g
         → d ≡ jacobi g ls (b-of (cells g) e) (u-of (cells g) e) ++ (b-of (cells g) e ++ (u-of (cells g) e ++ drop (3 * cells g) e))
         → x ≡ sweptRoom m true g ls cs d → Put (cells g) (3 * cells g) (downstroke k g ls (b-of (cells g) e)) e x
@@ -218,7 +218,7 @@ module _ (g : Sides) (ls cs : List ℕ) (e d x : List Float) (z : Level g ls e) 
         (times-down g ls cs (inBand g ls) (band-air g ls) q m b (u-of n e) ∙ ap (λ j. times j (descending g ls (inBand g ls) b) (u-of n e)) count))
         (put-then n (3 * n) _ (λ c v. jacobi g ls c v) first second)
 
-pub coarsest-is : (g : Sides) (ls cs : List ℕ) (e x : List Float) → Level g ls e → cs ≡ chosen (isAir ls) (cells g) → u-of (cells g) e ≡ zeros g
+pub coarsest-is : (g : Sides) (ls cs : List ℕ) (e x : List Float) → Level g ls e → cs ≡ waves g (isAir ls) → u-of (cells g) e ≡ zeros g
     → x ≡ up (coarsestTurn g ls cs) 16 e → Put (cells g) (3 * cells g) (coarsest g ls (b-of (cells g) e)) e x
 unfolding coarsest
 coarsest-is g ls cs e x z q o r =
@@ -233,7 +233,7 @@ coarsest-is g ls cs e x z q o r =
     ∙ ap (times 8 (descending g ls (isAir ls) b)) (times-up g ls cs (isAir ls) (λ c a. a) q 8 b (u-of n e) ∙ ap (times 8 (ascending g ls (isAir ls) b)) o))
     (put-then n (3 * n) _ (λ c v. times 8 (swept false g ls cs c) v) first second)
 
-pub ruleset strokes = (ups, below-chosen, coarsest-is, downstroke-is, upstroke-is)
+pub ruleset strokes = (ups, below-waves, coarsest-is, downstroke-is, upstroke-is)
 
 -- ---- the residual, restricted
 restricted-length : (g : Sides) (ls : List ℕ) (u : List Float) → length (restricted g ls u) ≡ cells (halved g)

@@ -12,12 +12,12 @@ use mir.Val.{Fits}
 use lib.ListN.{length, getD, take, drop, length-append, length-drop}
 use lib.Seq.{take-at, drop-at, length-take-le, drop-drop, take-take, take-append-le}
 use lib.Ieee.{Float}
-use Rattle.laws.specs.Lists.{chosen}
 use Rattle.laws.proofs.Fill.{part-take}
 use Rattle.method.specs.declared.Sides.{Sides}
 use Rattle.method.specs.Cast.{cells, isAir}
 use Rattle.method.specs.Levels.{halved, coarse, inBand, restricted}
 use Rattle.method.specs.Cycle.{cycle, coarsest, downstroke, upstroke, corrected, residue, zeros}
+use Rattle.theory.specs.Waves.{waves}
 use Rattle.theory.specs.Levels.{sidesAt, labelsAt, cellsBefore}
 use Rattle.theory.proofs.Sides.{Fit}
 use Rattle.theory.proofs.Sizes.{fit-at}
@@ -26,8 +26,8 @@ use Rattle.grid.proofs.Steps.{cells-most}
 use Rattle.levels.specs.declared.sides.Levels.{Levels}
 use Rattle.levels.specs.declared.lists.Lists.{Lists}
 use Rattle.levels.specs.Levels.{base, startIn, sidesIn}
-use Rattle.levels.specs.Lists.{bandOf, airOf}
-use Rattle.levels.specs.AllLists.{partIn, baseLabels, listOf, listAt}
+use Rattle.levels.specs.Lists.{smoothed, listOf}
+use Rattle.levels.specs.AllLists.{partIn, baseLabels, listAt}
 use Rattle.levels.proofs.Starts.{start-of, sides-of}
 use Rattle.levels.proofs.Calls.{before-up-to}
 use Rattle.smooth.specs.Fields.{u-of, b-of, Level}
@@ -160,17 +160,17 @@ module _ {l : Levels} {s : Lists} {count k : ℕ} {bytes words : List ℕ} {r : 
         list-here : cs ≡ listAt (base l) (baseLabels l bytes) count k
         list-here = ec ∙ z .prepared .lists k (z .below)
 
-        pub band-listed : k + 1 < count → cs ≡ chosen (inBand g ls) (cells g)
-        unfolding listAt listOf bandOf
+        pub band-listed : k + 1 < count → cs ≡ waves g (inBand g ls)
+        unfolding listAt listOf smoothed
         band-listed h =
             list-here ∙ ap (λ b. listOf b (sidesOf l k) (labelsOf l bytes k)) (lt-ltb (k + 1) count h)
-            ∙ ap₂ (λ m c. chosen (inBand m c) (cells m)) (sym same-sides) (sym same-labels)
+            ∙ ap₂ (λ m c. waves m (inBand m c)) (sym same-sides) (sym same-labels)
 
-        pub air-listed : count ≤ k + 1 → cs ≡ chosen (isAir ls) (cells g)
-        unfolding listAt listOf airOf
+        pub air-listed : count ≤ k + 1 → cs ≡ waves g (isAir ls)
+        unfolding listAt listOf smoothed
         air-listed h =
             list-here ∙ ap (λ b. listOf b (sidesOf l k) (labelsOf l bytes k)) (le-ltb (k + 1) count h)
-            ∙ ap₂ (λ m c. chosen (isAir c) (cells m)) (sym same-sides) (sym same-labels)
+            ∙ ap₂ (λ m c. waves m (isAir c)) (sym same-sides) (sym same-labels)
 
         -- the coarsest level
         pub cycle-last : (e d x : List Float) → length e ≡ r → count ≤ k + 1 → d ≡ zeros g ++ drop (cells g) e

@@ -3,10 +3,10 @@
 ghost use mathlib.Core.Path.{_≡_};
 ghost use Prim.Native.Nat.{_+_, _*_, _≤_, _<_};
 ghost use lib.ListN.{length};
-ghost use Rattle.laws.specs.Lists.{chosen};
 ghost use Rattle.method.specs.Cast.{cells, isAir};
 ghost use Rattle.method.specs.Levels.{inBand};
 ghost use Rattle.method.specs.Cycle.{sweeps, zeros, coarsest, downstroke};
+ghost use Rattle.theory.specs.Waves.{waves};
 ghost use Rattle.levels.specs.AllLists.{partIn};
 ghost use Rattle.smooth.specs.Fields.{u-of, b-of, Level};
 ghost use Rattle.smooth.specs.Sweeps.{Below};
@@ -70,7 +70,7 @@ fn coarsest_sweep(room: &mut [f64], labels: &[u8], list: &[u32], g: Sides, i: us
 // The coarsest level, from u = 0: 8 ascending and 8 descending sweeps over its air cells.
 fn coarsest(room: &mut [f64], labels: &[u8], list: &[u32], g: Sides)
     requires { ⌜ Level g (now labels) (now room) ⌝ }
-    requires { ⌜ now list ≡ chosen (isAir (now labels)) (cells g) ⌝ }
+    requires { ⌜ now list ≡ waves g (isAir (now labels)) ⌝ }
     requires { ⌜ u-of (cells g) (now room) ≡ zeros g ⌝ }
     ensures { λ _. ⌜ Put (cells g) (3 * cells g) (coarsest g (now (labels .entry)) (b-of (cells g) (now (room .entry)))) (now (room .entry)) (now (room .exit)) ⌝ }
 {
@@ -85,7 +85,7 @@ fn coarsest(room: &mut [f64], labels: &[u8], list: &[u32], g: Sides)
 fn downstroke(room: &mut [f64], labels: &[u8], list: &[u32], g: Sides, k: usize)
     requires { ⌜ k < 6 ⌝ }
     requires { ⌜ Level g (now labels) (now room) ⌝ }
-    requires { ⌜ now list ≡ chosen (inBand g (now labels)) (cells g) ⌝ }
+    requires { ⌜ now list ≡ waves g (inBand g (now labels)) ⌝ }
     requires { ⌜ u-of (cells g) (now room) ≡ zeros g ⌝ }
     ensures { λ _. ⌜ Put (cells g) (3 * cells g) (downstroke k g (now (labels .entry)) (b-of (cells g) (now (room .entry)))) (now (room .entry)) (now (room .exit)) ⌝ }
 {
@@ -97,7 +97,7 @@ fn downstroke(room: &mut [f64], labels: &[u8], list: &[u32], g: Sides, k: usize)
 fn upstroke(room: &mut [f64], labels: &[u8], list: &[u32], g: Sides, k: usize)
     requires { ⌜ k < 6 ⌝ }
     requires { ⌜ Level g (now labels) (now room) ⌝ }
-    requires { ⌜ now list ≡ chosen (inBand g (now labels)) (cells g) ⌝ }
+    requires { ⌜ now list ≡ waves g (inBand g (now labels)) ⌝ }
     ensures { λ _. ⌜ Put (cells g) (3 * cells g) (rising k g (now (labels .entry)) (b-of (cells g) (now (room .entry))) (u-of (cells g) (now (room .entry)))) (now (room .entry)) (now (room .exit)) ⌝ }
 {
     sweep_times(room, labels, list, g, false, sweep_count(k));

@@ -35,7 +35,7 @@ pub fn spot_of(g: method::Sides, c: usize) -> Spot
 }
 
 // The number of the cell at coordinates in the box.
-fn number_of(g: method::Sides, x: usize, y: usize, z: usize) -> usize
+pub fn number_of(g: method::Sides, x: usize, y: usize, z: usize) -> usize
     requires { ⌜ Fit g ⌝ }
     requires { ⌜ (x < 33) × (y < 33) × (z < 33) ⌝ }
     ensures { λ r. ⌜ r ≡ number g x y z ⌝ }

@@ -1,11 +1,12 @@
--- Laws of module `lists`: the cells below c that pass a test stand in the room, and there is room for the next. Assumes nothing.
+-- Laws of module `lists`: the cells so far that pass a test stand in the room, wave by wave, and there is room for the next. Assumes nothing.
 use Prim.Native.Nat.{ℕ, zero, suc, _+_, _-_, _≤_, _<_}
-use mathlib.Core.Path.{_≡_, refl, ap, ap₂, _∙_}
+use mathlib.Core.Path.{_≡_, refl, sym, ap, ap₂, _∙_}
 use mathlib.Core.Bool.{Bool, true, false, cond, false≢true}
-use mathlib.Core.List.{List}
+use mathlib.Core.List.{List, []}
 use native.Mathlib.Numerals.{add-one}
 use native.Mathlib.Omega.{arith}
 use borrow.Author.Needs.{needs}
+use borrow.Author.Tests.{lt-ltb, le-ltb, le-leb, lt-leb}
 use lib.Dec.{eqb}
 use lib.ListN.{length, set, length-append}
 use mir.Syntax.{w64}
@@ -13,14 +14,17 @@ use mir.Val.{Fits}
 use Rattle.laws.specs.Loops.{up}
 use Rattle.laws.specs.Lists.{kept, chosen}
 use Rattle.method.specs.declared.Sides.{Sides}
-use Rattle.method.specs.Cast.{cells, labelAt, isAir, judged, interior}
+use Rattle.method.specs.Cast.{cells, number, labelAt, isAir, judged, interior}
 use Rattle.method.specs.Levels.{halved, inBand}
+use Rattle.theory.specs.Waves.{strung, onWave, waveCell, waveLine, waveOf, waves}
 use Rattle.theory.proofs.Sides.{Fit}
+use Rattle.theory.proofs.Numbers.{number-in}
 use Rattle.theory.proofs.Children.{band-air}
+use Rattle.theory.proofs.Waves.{waves-length}
+use Rattle.grid.proofs.Steps.{cells-most}
 use Rattle.levels.specs.Rooms.{written}
 use Rattle.levels.specs.Other.{BandAsked}
-use Rattle.levels.specs.Lists.{bandOf, airOf, Placed, Listed}
-use Rattle.levels.specs.AllLists.{listOf}
+use Rattle.levels.specs.Lists.{smoothed, listOf, Placed, Listed}
 use Rattle.levels.proofs.Labelled.{next-fit}
 use Rattle.levels.proofs.Rooms.{written-none, length-written, written-on, set-written}
 
@@ -69,15 +73,6 @@ module _ (p : ℕ → Bool) where
   unfolding chosen
   chosen-suc n = length-append (chosen p n) (kept (p n) n) ∙ ap (λ k. length (chosen p n) + k) (kept-one (p n) n)
 
-  chosen-grows : (n k : ℕ) → length (chosen p n) ≤ length (chosen p (k + n))
-  chosen-grows n zero = let q : 0 + n ≡ n = omega arith in rw q (omega arith)
-  chosen-grows n (suc k) =
-      let q : suc k + n ≡ suc (k + n) = omega arith in
-      rw q (omega (arith, chosen-grows n k, chosen-suc (k + n)))
-
-  chosen-up : (n m : ℕ) → n ≤ m → length (chosen p n) ≤ length (chosen p m)
-  chosen-up n m h = let q : m - n + n ≡ m = omega arith in rw q at (chosen-grows n (m - n))
-
   pub chosen-count : (n : ℕ) → length (chosen p n) ≡ up (λ c i. cond (p c) (i + 1) i) n 0
   unfolding up chosen
   chosen-count zero = refl
@@ -108,58 +103,143 @@ air-within ls = record { at = λ c h. h }
 pub band-within : (g : Sides) (ls : List ℕ) → Within (inBand g ls) (isAir ls)
 band-within g ls = record { at = band-air g ls }
 
--- ---- the cells below c that pass stand in the room
-module _ (p : ℕ → Bool) (e : List ℕ) (a : ℕ) where
-  pub chosen-none : Placed e a (chosen p 0) a e
-  unfolding chosen
-  chosen-none = record { next = omega arith; room = written-none e a }
+-- ---- lists strung together, up to the i-th of n, stand in the room
+module _ (f : ℕ → List ℕ) (e : List ℕ) (a : ℕ) where
+  pub strung-none : Placed e a (strung f 0) a e
+  unfolding strung
+  strung-none = record { next = omega arith; room = written-none e a }
 
-  chosen-next : (c r r′ : ℕ) (s s′ : List ℕ) → a ≤ length e → Placed e a (chosen p c) r s → Placed s r (kept (p c) c) r′ s′ → Placed e a (chosen p (suc c)) r′ s′
-  unfolding chosen
-  chosen-next c r r′ s s′ h u v = record {
-    next = omega (arith, u .next, v .next, length-append (chosen p c) (kept (p c) c));
-    room = v .room ∙ ap₂ (λ x k. written x k (kept (p c) c)) (u .room) (u .next) ∙ written-on e a (chosen p c) h (kept (p c) c);
+  strung-next : (i r r′ : ℕ) (s s′ : List ℕ) → a ≤ length e → Placed e a (strung f i) r s → Placed s r (f i) r′ s′ → Placed e a (strung f (suc i)) r′ s′
+  unfolding strung
+  strung-next i r r′ s s′ h u v = record {
+    next = omega (arith, u .next, v .next, length-append (strung f i) (f i));
+    room = v .room ∙ ap₂ (λ x k. written x k (f i)) (u .room) (u .next) ∙ written-on e a (strung f i) h (f i);
   }
 
-within-air : (g : Sides) (ls : List ℕ) (p : ℕ → Bool) → Within p (isAir ls) → (c : ℕ) → c ≤ cells g → length (chosen p c) ≤ interior g ls
-unfolding interior judged
-within-air g ls p w c k = omega (arith, chosen-up p c (cells g) k, chosen-wider p (isAir ls) w (cells g), chosen-count (isAir ls) (cells g))
+strung-grows : (f : ℕ → List ℕ) (i k : ℕ) → length (strung f i) ≤ length (strung f (k + i))
+unfolding strung
+strung-grows f i zero = let q : 0 + i ≡ i = omega arith in rw q (omega arith)
+strung-grows f i (suc k) =
+    let q : suc k + i ≡ suc (k + i) = omega arith in
+    rw q (omega (arith, strung-grows f i k, length-append (strung f (k + i)) (f (k + i))))
 
--- a level's list is no longer than it has air cells
+strung-up : (f : ℕ → List ℕ) (i n : ℕ) → i ≤ n → length (strung f i) ≤ length (strung f n)
+strung-up f i n h = let q : n - i + i ≡ n = omega arith in rw q at (strung-grows f i (n - i))
+
+module _ (f : ℕ → List ℕ) (e : List ℕ) (a n : ℕ) (h : a + length (strung f n) ≤ length e) (i r : ℕ) (s : List ℕ) (u : Placed e a (strung f i) r s) where
+  pub strung-same : i ≤ n → length s ≡ length e
+  strung-same k = ap length (u .room) ∙ length-written e a (strung f i) (omega (arith, strung-up f i n k))
+
+  -- there is a place for the next
+  strung-room : i < n → r + length (f i) ≤ length s
+  unfolding strung
+  strung-room k = omega (arith, u .next, strung-same (omega arith), strung-up f (suc i) n k, length-append (strung f i) (f i))
+
+  pub strung-more : (r′ : ℕ) (s′ : List ℕ) → Placed s r (f i) r′ s′ → Placed e a (strung f (i + 1)) r′ s′
+  strung-more r′ s′ v = rw add-one (strung-next f e a i r r′ s s′ (omega arith) u v)
+
+  pub strung-end : i ≤ n → n ≤ i → Placed e a (strung f n) r s
+  strung-end k l = let q : i ≡ n = omega arith in rw q at u
+
+-- ---- the cell of wave w at j and k
+module _ (g : Sides) (p : ℕ → Bool) (w k j : ℕ) where
+  off-wave : onWave g w k j ≡ false → waveCell g p w k j ≡ []
+  unfolding waveCell kept
+  off-wave e = rw e
+
+  on-wave : j + k ≤ w → w - (j + k) < g .nx → waveCell g p w k j ≡ kept (p (number g (w - (j + k)) j k)) (number g (w - (j + k)) j k)
+  unfolding waveCell onWave
+  on-wave a b = rw (le-leb (j + k) w a, lt-ltb (w - (j + k)) (g .nx) b)
+
+  pub early-placed : (e : List ℕ) (a : ℕ) → w < j + k → Placed e a (waveCell g p w k j) a e
+  unfolding onWave
+  early-placed e a h = rw (off-wave (rw (lt-leb (j + k) w h))) (record { next = omega arith; room = written-none e a })
+
+  pub late-placed : (e : List ℕ) (a : ℕ) → j + k ≤ w → g .nx ≤ w - (j + k) → Placed e a (waveCell g p w k j) a e
+  unfolding onWave
+  late-placed e a h l = rw (off-wave (rw (le-leb (j + k) w h, le-ltb (w - (j + k)) (g .nx) l))) (record { next = omega arith; room = written-none e a })
+
+  module _ (c : ℕ) (q : c ≡ number g (w - (j + k)) j k) (a : j + k ≤ w) (b : w - (j + k) < g .nx) where
+    pub wave-in : j < g .ny → k < g .nz → c < cells g
+    wave-in l m = rw q (number-in g (w - (j + k)) j k b l m)
+
+    cell-is : waveCell g p w k j ≡ kept (p c) c
+    cell-is = on-wave a b ∙ ap (λ x. kept (p x) x) (sym q)
+
+    kept-room : (next n : ℕ) → next + length (waveCell g p w k j) ≤ n → next + length (kept (p c) c) ≤ n
+    kept-room next n h = rw cell-is at h
+
+    pub wave-placed : (next r : ℕ) (e s : List ℕ) → Placed e next (kept (p c) c) r s → Placed e next (waveCell g p w k j) r s
+    wave-placed next r e s h = rw cell-is h
+
+-- the same of the tests that the code has, and of the lists that it has
+pub smoothed-room : (g : Sides) (b : Bool) (ls : List ℕ) (w k j c : ℕ) → c ≡ number g (w - (j + k)) j k → j + k ≤ w → w - (j + k) < g .nx
+    → (next n : ℕ) → next + length (waveCell g (smoothed b g ls) w k j) ≤ n → next + length (kept (smoothed b g ls c) c) ≤ n
+smoothed-room g b ls w k j c q l m = kept-room g (smoothed b g ls) w k j c q l m
+
+module _ (g : Sides) (p : ℕ → Bool) (e : List ℕ) (a : ℕ) (r : ℕ) (s : List ℕ) where
+  pub cell-room : (w k j : ℕ) → a + length (waveLine g p w k) ≤ length e → Placed e a (strung (waveCell g p w k) j) r s → j < g .ny
+      → r + length (waveCell g p w k j) ≤ length s
+  cell-room w k j h u l = strung-room (waveCell g p w k) e a (g .ny) h j r s u l
+
+  pub line-room : (w k : ℕ) → a + length (waveOf g p w) ≤ length e → Placed e a (strung (waveLine g p w) k) r s → k < g .nz
+      → r + length (waveLine g p w k) ≤ length s
+  line-room w k h u l = strung-room (waveLine g p w) e a (g .nz) h k r s u l
+
+  pub wave-room : (w : ℕ) → a + length (strung (waveOf g p) (g .nx + g .ny + g .nz)) ≤ length e → Placed e a (strung (waveOf g p) w) r s → w < g .nx + g .ny + g .nz
+      → r + length (waveOf g p w) ≤ length s
+  wave-room w h u l = strung-room (waveOf g p) e a (g .nx + g .ny + g .nz) h w r s u l
+
+-- ---- a level's list is no longer than it has air cells
+smoothed-air : (b : Bool) (g : Sides) (ls : List ℕ) → Within (smoothed b g ls) (isAir ls)
+unfolding smoothed
+smoothed-air true g ls = band-within g ls
+smoothed-air false g ls = air-within ls
+
 pub list-le : (b : Bool) (g : Sides) (ls : List ℕ) → length (listOf b g ls) ≤ interior g ls
-unfolding listOf bandOf airOf
-list-le true g ls = within-air g ls (inBand g ls) (band-within g ls) (cells g) (omega arith)
-list-le false g ls = within-air g ls (isAir ls) (air-within ls) (cells g) (omega arith)
-
-module _ (g : Sides) (ls : List ℕ) (e : List ℕ) (a : ℕ) (h : a + interior g ls ≤ length e) where
-  pub chosen-more : (p : ℕ → Bool) (c r r′ : ℕ) (s s′ : List ℕ) → Placed e a (chosen p c) r s → Placed s r (kept (p c) c) r′ s′ → Placed e a (chosen p (c + 1)) r′ s′
-  chosen-more p c r r′ s s′ u v = rw add-one (chosen-next p e a c r r′ s s′ (omega arith) u v)
-
-  -- the room keeps its length, and has a place for the next cell
-  pub room-same : (p : ℕ → Bool) (n c r : ℕ) (s : List ℕ) → n ≡ cells g → c ≤ n → Placed e a (chosen p c) r s → Within p (isAir ls) → length s ≡ length e
-  room-same p n c r s q k u w = ap length (u .room) ∙ length-written e a (chosen p c) (omega (arith, within-air g ls p w c (omega arith)))
-
-  pub room-next : (p : ℕ → Bool) (b : Bool) (n c r : ℕ) (s : List ℕ) → n ≡ cells g → c < n → Placed e a (chosen p c) r s → Within p (isAir ls) → b ≡ p c
-      → r + length (kept b c) ≤ length s
-  room-next p b n c r s q k u w z =
-      rw z (omega (arith, u .next, room-same p n c r s q (omega arith) u w, within-air g ls p w (suc c) (omega arith), chosen-suc p c, kept-one (p c) c))
+unfolding listOf interior judged
+list-le b g ls = omega (
+  arith,
+  waves-length g (smoothed b g ls),
+  chosen-wider (smoothed b g ls) (isAir ls) (smoothed-air b g ls) (cells g),
+  chosen-count (isAir ls) (cells g),
+)
 
 listed : (e : List ℕ) (a : ℕ) (l : List ℕ) (r : ℕ) (s : List ℕ) → Placed e a l r s → Listed e a l (r - a) s
 listed e a l r s u = record { count = omega (arith, u .next); room = u .room }
 
-module _ (g : Sides) (ls e s : List ℕ) (a n c r : ℕ) (q : n ≡ cells g) (u : c ≤ n) (v : n ≤ c) where
-  pub band-listed : Placed e a (chosen (inBand g ls) c) r s → Listed e a (bandOf g ls) (r - a) s
-  unfolding bandOf
-  band-listed p = let k : c ≡ cells g = omega arith in listed e a (chosen (inBand g ls) (cells g)) r s (rw k at p)
+module _ (g : Sides) (ls e : List ℕ) (a : ℕ) (b : Bool) where
+  pub list-room : a + interior g ls ≤ length e → a + length (strung (waveOf g (smoothed b g ls)) (g .nx + g .ny + g .nz)) ≤ length e
+  unfolding listOf waves
+  list-room h = omega (arith, list-le b g ls)
 
-  pub air-listed : Placed e a (chosen (isAir ls) c) r s → Listed e a (airOf g ls) (r - a) s
-  unfolding airOf
-  air-listed p = let k : c ≡ cells g = omega arith in listed e a (chosen (isAir ls) (cells g)) r s (rw k at p)
+  pub list-more : a + interior g ls ≤ length e → (w r r′ : ℕ) (s s′ : List ℕ) → Placed e a (strung (waveOf g (smoothed b g ls)) w) r s
+      → Placed s r (waveOf g (smoothed b g ls) w) r′ s′ → Placed e a (strung (waveOf g (smoothed b g ls)) (w + 1)) r′ s′
+  list-more h w r r′ s s′ u v = strung-more (waveOf g (smoothed b g ls)) e a (g .nx + g .ny + g .nz) (list-room h) w r s u r′ s′ v
+
+  pub list-listed : (r : ℕ) (s : List ℕ) → Placed e a (strung (waveOf g (smoothed b g ls)) (g .nx + g .ny + g .nz)) r s → Listed e a (listOf b g ls) (r - a) s
+  unfolding listOf waves
+  list-listed r s p = listed e a (waves g (smoothed b g ls)) r s p
 
 -- ---- what the calls ask
 pub band-asked : (g h : Sides) (n m c : ℕ) → Fit g → h ≡ halved g → n ≡ cells g → m ≡ cells h → c < n → BandAsked g h n m c
 band-asked g h n m c z p q r l = record { fine = z; next = p; count = q; coarse-count = r; inside = omega arith }
 
+pub cell-small : (g : Sides) (c : ℕ) → Fit g → c < cells g → c < 32768
+cell-small g c z h = omega (arith, cells-most g z)
+
+pub band-smoothed : (g : Sides) (ls : List ℕ) (b : Bool) (c : ℕ) → b ≡ true → inBand g ls c ≡ smoothed b g ls c
+unfolding smoothed
+band-smoothed g ls b c e = rw e
+
+pub air-smoothed : (g : Sides) (ls : List ℕ) (b : Bool) (c : ℕ) → b ≡ false → isAir ls c ≡ smoothed b g ls c
+unfolding smoothed
+air-smoothed g ls b c e = rw e
+
 pub ruleset keeps = (needs, keep-in, keep-fits, placed-one, placed-none, kept-same, placed-same, air-room, air-placed)
 
-pub ruleset choosing = (needs, chosen-none, chosen-more, air-within, band-within, room-same, room-next, band-listed, air-listed, band-asked, next-fit)
+pub ruleset keeps-either = (needs, kept-same, placed-same, next-fit, band-asked, cell-small, band-smoothed, air-smoothed)
+
+pub ruleset on-waves = (needs, strung-none, strung-same, strung-more, strung-end, early-placed, late-placed, wave-in, wave-placed, smoothed-room, cell-room, line-room)
+
+pub ruleset on-lists = (needs, strung-none, strung-same, strung-end, wave-room, list-room, list-more, list-listed)

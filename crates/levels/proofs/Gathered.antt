@@ -1,6 +1,7 @@
 -- Laws of all levels' lists: one after the other, with room for the next. Assumes nothing.
 use Prim.Native.Nat.{ℕ, zero, suc, _+_, _-_, _≤_, _<_}
 use mathlib.Core.Path.{_≡_, refl, sym, ap, ap₂, _∙_}
+use mathlib.Core.Bool.{true, false}
 use mathlib.Core.List.{List, _++_}
 use native.Mathlib.Numerals.{add-one}
 use native.Mathlib.Omega.{arith}
@@ -21,8 +22,8 @@ use Rattle.levels.specs.declared.lists.Lists.{Lists}
 use Rattle.levels.specs.declared.lists.Gather.{Gather}
 use Rattle.levels.specs.Rooms.{written}
 use Rattle.levels.specs.Levels.{base, startIn, sidesIn}
-use Rattle.levels.specs.Lists.{bandOf, airOf, Listed}
-use Rattle.levels.specs.AllLists.{listOf, listAt, listsBefore, firsts, listsTo, AllListed, partIn, baseLabels, listIn, listSet, Gathered, LevelAsked, ListsAsked}
+use Rattle.levels.specs.Lists.{listOf, Listed}
+use Rattle.levels.specs.AllLists.{listAt, listsBefore, firsts, listsTo, AllListed, partIn, baseLabels, listIn, listSet, Gathered, LevelAsked, ListsAsked}
 use Rattle.levels.proofs.Starts.{start-of, sides-of}
 use Rattle.levels.proofs.Rooms.{written-none, length-written, written-on}
 use Rattle.levels.proofs.Labelled.{room-enough}
@@ -48,12 +49,12 @@ module _ (l : Levels) (k a : ℕ) (bytes : List ℕ) (words : ℕ) (h : LevelAsk
     level-room = rw (cut-is, e) (h .room)
 
     module _ (count r : ℕ) (v s : List ℕ) where
-      pub level-band : k + 1 < count → Listed v a (bandOf g cut) r s → Listed v a (listIn l count bytes k) r s
-      unfolding listIn listOf
+      pub level-band : k + 1 < count → Listed v a (listOf true g cut) r s → Listed v a (listIn l count bytes k) r s
+      unfolding listIn
       level-band b p = rw (lt-ltb (k + 1) count b, ← e, ← cut-is) p
 
-      pub level-air : count ≤ k + 1 → Listed v a (airOf g cut) r s → Listed v a (listIn l count bytes k) r s
-      unfolding listIn listOf
+      pub level-air : count ≤ k + 1 → Listed v a (listOf false g cut) r s → Listed v a (listIn l count bytes k) r s
+      unfolding listIn
       level-air b p = rw (le-ltb (k + 1) count b, ← e, ← cut-is) p
 
 pub gather-fits : (l : Levels) (k a count n : ℕ) (bytes v s : List ℕ) → LevelAsked l k a bytes (length v) → Listed v a (listIn l count bytes k) n s → Fits w64 (length v) → Fits w64 (a + n)

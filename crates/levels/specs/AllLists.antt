@@ -1,7 +1,7 @@
 -- The lists of all levels in one room: for each level but the last its band, for the last all its air cells.
 use Prim.Native.Nat.{ℕ, zero, suc, _+_, _<_, _≤_}
 use mathlib.Core.Path.{_≡_}
-use mathlib.Core.Bool.{Bool, cond}
+use mathlib.Core.Bool.{cond}
 use mathlib.Core.List.{List, [], _++_}
 use lib.Dec.{ltb}
 use lib.ListN.{length, take, drop, set}
@@ -17,11 +17,7 @@ use Rattle.levels.specs.declared.lists.Gather.{Gather}
 use Rattle.levels.specs.Rooms.{written}
 use Rattle.levels.specs.Levels.{levelsOf, base, startIn, sidesIn}
 use Rattle.levels.specs.AllLabels.{LabelsIn}
-use Rattle.levels.specs.Lists.{bandOf, airOf}
-
--- the band, or all air cells
-unfoldable pub listOf : Bool → Sides → List ℕ → List ℕ
-listOf band g ls = cond band (bandOf g ls) (airOf g ls)
+use Rattle.levels.specs.Lists.{listOf}
 
 -- the list of level k of count levels, and those of the levels 0, 1, .. k - 1, one after the other
 unfoldable pub listAt : Sides → List ℕ → ℕ → ℕ → List ℕ

@@ -1,20 +1,22 @@
 -- The cells that are smoothed on a level, and how they are written down.
 use Prim.Native.Nat.{ℕ, _+_}
 use mathlib.Core.Path.{_≡_}
+use mathlib.Core.Bool.{Bool, true, false}
 use mathlib.Core.List.{List}
 use lib.ListN.{length}
-use Rattle.laws.specs.Lists.{chosen}
 use Rattle.method.specs.declared.Sides.{Sides}
-use Rattle.method.specs.Cast.{cells, isAir}
+use Rattle.method.specs.Cast.{isAir}
 use Rattle.method.specs.Levels.{inBand}
+use Rattle.theory.specs.Waves.{waves}
 use Rattle.levels.specs.Rooms.{written}
 
--- the band of a level, and all its air cells
-unfoldable pub bandOf : Sides → List ℕ → List ℕ
-bandOf g ls = chosen (inBand g ls) (cells g)
+-- the test of a level's cells: in the band, or air; and the cells that pass, wave by wave
+unfoldable pub smoothed : Bool → Sides → List ℕ → ℕ → Bool
+smoothed true g ls = inBand g ls
+smoothed false g ls = isAir ls
 
-unfoldable pub airOf : Sides → List ℕ → List ℕ
-airOf g ls = chosen (isAir ls) (cells g)
+unfoldable pub listOf : Bool → Sides → List ℕ → List ℕ
+listOf band g ls = waves g (smoothed band g ls)
 
 -- l is written to the room from place a on, and r is the place after it
 pub record Placed (e : List ℕ) (a : ℕ) (l : List ℕ) (r : ℕ) (s : List ℕ) : Type 0 where

@@ -1,14 +1,15 @@
-// The cells that are smoothed on each level, in ascending number, one level after the other in the word room.
+// The cells that are smoothed on each level, by ascending i + j + k, one level after the other in the word room.
 ghost use mathlib.Core.Path.{_≡_};
 ghost use Prim.Native.Nat.{_+_, _≤_, _<_};
 ghost use lib.ListN.{length};
 ghost use Rattle.laws.specs.Lists.{kept};
-ghost use Rattle.method.specs.Cast.{isAir, interior};
+ghost use Rattle.method.specs.Cast.{cells, isAir, interior};
 ghost use Rattle.method.specs.Levels.{inBand};
+ghost use Rattle.theory.specs.Waves.{waveCell, waveLine, waveOf};
 ghost use Rattle.theory.proofs.Sides.{Fit};
 ghost use Rattle.levels.specs.Other.{BandAsked};
 ghost use Rattle.levels.specs.Levels.{base};
-ghost use Rattle.levels.specs.Lists.{Placed, Listed, bandOf, airOf};
+ghost use Rattle.levels.specs.Lists.{Placed, Listed, smoothed, listOf};
 ghost use Rattle.levels.specs.AllLists.{listIn, listSet, baseLabels, LevelAsked, ListsAsked, Gathered, AllListed};
 use crate::sides::Levels;
 use method::Sides;
@@ -63,36 +64,103 @@ fn keep_air(words: &mut [u32], next: usize, labels: &[u8], c: usize) -> usize
     keep(words, next, c, grid::near::label_at(labels, c) == 0)
 }
 
-// The band of a level of sides g, from place `at` on; how many cells it has.
-pub fn band_list(words: &mut [u32], at: usize, labels: &[u8], g: Sides) -> usize
+// Cell c, if it is to be smoothed: in the band, or air.
+fn keep_cell(words: &mut [u32], next: usize, labels: &[u8], g: Sides, band: bool, c: usize) -> usize
     requires { ⌜ Fit g ⌝ }
-    requires { ⌜ at + interior g (now labels) ≤ length (now words) ⌝ }
-    ensures { λ r. ⌜ Listed (now (words .entry)) at (bandOf g (now (labels .entry))) r (now (words .exit)) ⌝ }
+    requires { ⌜ (c < cells g) × (next + length (kept (smoothed band g (now labels) c) c) ≤ length (now words)) ⌝ }
+    ensures { λ r. ⌜ Placed (now (words .entry)) next (kept (smoothed band g (now (labels .entry)) c) c) r (now (words .exit)) ⌝ }
 {
-    let h = crate::sides::halved_of(g);
-    let n = grid::place::cell_count(g);
-    let m = grid::place::cell_count(h);
-    let mut next = at;
-    let mut c = 0;
-    while c < n {
-        next = keep_band(words, next, labels, g, h, n, m, c);
-        c += 1;
+    if band {
+        let h = crate::sides::halved_of(g);
+        let n = grid::place::cell_count(g);
+        let m = grid::place::cell_count(h);
+        keep_band(words, next, labels, g, h, n, m, c)
+    } else {
+        keep_air(words, next, labels, c)
     }
-    next - at
 }
 
-// All air cells of a level of sides g, from place `at` on; how many they are.
-pub fn air_list(words: &mut [u32], at: usize, labels: &[u8], g: Sides) -> usize
+// The cell of wave w at j and k, if there is one and it is to be smoothed.
+fn keep_at(
+    words: &mut [u32],
+    next: usize,
+    labels: &[u8],
+    g: Sides,
+    band: bool,
+    w: usize,
+    k: usize,
+    j: usize,
+) -> usize
+    requires { ⌜ Fit g ⌝ }
+    requires { ⌜ (j < g .ny) × (k < g .nz) ⌝ }
+    requires { ⌜ next + length (waveCell g (smoothed band g (now labels)) w k j) ≤ length (now words) ⌝ }
+    ensures { λ r. ⌜ Placed (now (words .entry)) next (waveCell g (smoothed band g (now (labels .entry))) w k j) r (now (words .exit)) ⌝ }
+{
+    let near = j + k;
+    if w < near {
+        return next;
+    }
+    let i = w - near;
+    if g.nx as usize <= i {
+        return next;
+    }
+    let c = grid::place::number_of(g, i, j, k);
+    keep_cell(words, next, labels, g, band, c)
+}
+
+// Those of wave w at k.
+fn keep_line(
+    words: &mut [u32],
+    at: usize,
+    labels: &[u8],
+    g: Sides,
+    band: bool,
+    w: usize,
+    k: usize,
+) -> usize
+    requires { ⌜ Fit g ⌝ }
+    requires { ⌜ k < g .nz ⌝ }
+    requires { ⌜ at + length (waveLine g (smoothed band g (now labels)) w k) ≤ length (now words) ⌝ }
+    ensures { λ r. ⌜ Placed (now (words .entry)) at (waveLine g (smoothed band g (now (labels .entry))) w k) r (now (words .exit)) ⌝ }
+{
+    let n = g.ny as usize;
+    let mut next = at;
+    let mut j = 0;
+    while j < n {
+        next = keep_at(words, next, labels, g, band, w, k, j);
+        j += 1;
+    }
+    next
+}
+
+// All of wave w.
+fn keep_wave(words: &mut [u32], at: usize, labels: &[u8], g: Sides, band: bool, w: usize) -> usize
+    requires { ⌜ Fit g ⌝ }
+    requires { ⌜ at + length (waveOf g (smoothed band g (now labels)) w) ≤ length (now words) ⌝ }
+    ensures { λ r. ⌜ Placed (now (words .entry)) at (waveOf g (smoothed band g (now (labels .entry))) w) r (now (words .exit)) ⌝ }
+{
+    let n = g.nz as usize;
+    let mut next = at;
+    let mut k = 0;
+    while k < n {
+        next = keep_line(words, next, labels, g, band, w, k);
+        k += 1;
+    }
+    next
+}
+
+// The cells of a level of sides g that are to be smoothed, wave by wave, from place `at` on; how many they are.
+pub fn wave_list(words: &mut [u32], at: usize, labels: &[u8], g: Sides, band: bool) -> usize
     requires { ⌜ Fit g ⌝ }
     requires { ⌜ at + interior g (now labels) ≤ length (now words) ⌝ }
-    ensures { λ r. ⌜ Listed (now (words .entry)) at (airOf g (now (labels .entry))) r (now (words .exit)) ⌝ }
+    ensures { λ r. ⌜ Listed (now (words .entry)) at (listOf band g (now (labels .entry))) r (now (words .exit)) ⌝ }
 {
-    let n = grid::place::cell_count(g);
+    let n = (g.nx as usize) + (g.ny as usize) + (g.nz as usize);
     let mut next = at;
-    let mut c = 0;
-    while c < n {
-        next = keep_air(words, next, labels, c);
-        c += 1;
+    let mut w = 0;
+    while w < n {
+        next = keep_wave(words, next, labels, g, band, w);
+        w += 1;
     }
     next - at
 }
@@ -113,9 +181,9 @@ fn level_list(
     let from = l.start[k];
     let to = from + grid::place::cell_count(g);
     if k + 1 < count {
-        band_list(words, at, &bytes[from..to], g)
+        wave_list(words, at, &bytes[from..to], g, true)
     } else {
-        air_list(words, at, &bytes[from..to], g)
+        wave_list(words, at, &bytes[from..to], g, false)
     }
 }
 

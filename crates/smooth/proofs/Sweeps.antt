@@ -1,7 +1,6 @@
 -- Sweeps of the room are sweeps of the fields in it, and over the list of the cells that pass a test they are the meaning's. Assumes nothing.
-use Prim.Native.Nat.{ℕ, zero, suc, _+_, _-_, _*_, _≤_, _<_}
+use Prim.Native.Nat.{ℕ, zero, suc, _-_, _*_, _≤_, _<_}
 use mathlib.Core.Path.{_≡_, refl, sym, ap, _∙_}
-use mathlib.Core.Logic.{⊎-elim}
 use mathlib.Core.Bool.{Bool, true, false, cond}
 use mathlib.Core.List.{List, [], _∷_, _++_, append-nil}
 use native.Mathlib.Omega.{arith}
@@ -13,7 +12,6 @@ use lib.Ieee.{Float}
 use Rattle.laws.specs.Binary64.{_⊕_}
 use Rattle.laws.specs.Loops.{up, down}
 use Rattle.laws.specs.Lists.{kept, chosen}
-use Rattle.laws.proofs.Naturals.{le-or-lt}
 use Rattle.laws.proofs.Loops.{ups, downs}
 use Rattle.laws.proofs.Fill.{up-same}
 use Rattle.laws.proofs.Fills.{down-within, up-front, down-front}
@@ -21,7 +19,9 @@ use Rattle.method.specs.declared.Sides.{Sides}
 use Rattle.method.specs.Cast.{cells, isAir}
 use Rattle.method.specs.Levels.{value}
 use Rattle.method.specs.Cycle.{change, relaxed, ascending, descending}
+use Rattle.theory.specs.Waves.{waves}
 use Rattle.theory.proofs.Sides.{Fit}
+use Rattle.theory.proofs.Waves.{wave-up, wave-down, waves-below}
 use Rattle.grid.proofs.Steps.{cells-most}
 use Rattle.smooth.specs.Fields.{u-of, b-of, relaxTurn}
 use Rattle.smooth.specs.Sweeps.{relaxedAt, sweptUp, sweptDown, Below}
@@ -152,22 +152,14 @@ module _ (g : Sides) (ls : List ℕ) (at : ℕ → Bool) (air : (c : ℕ) → at
   chosen-descending u = down-chosen (relaxed g ls (isAir ls) b) at (cells g) u
       ∙ down-within (λ c a. cond (at c) (relaxed g ls (isAir ls) b c a) a) (relaxed g ls at b) (cells g) u (λ c a h. tested-is c a)
 
--- ---- the chosen cells are below n
-pub chosen-below : (at : ℕ → Bool) (n : ℕ) → Below n (chosen at n)
-unfolding chosen kept
-chosen-below at zero = record { at = λ k h. absurd (omega arith) }
-chosen-below at (suc n) = record { at = λ k h. go (at n) (chosen-below at n .at) k h }
-  where
-    l : List ℕ
-    l = chosen at n
+  -- the same cells wave by wave, which lets a processor relax several at a time
+  pub waves-ascending : (u : List Float) → sweptUp g ls (waves g at) b u ≡ ascending g ls at b u
+  unfolding sweptUp
+  waves-ascending u = wave-up g ls (isAir ls) b at u ∙ chosen-ascending u
 
-    go : (t : Bool) → ((k : ℕ) → k < length l → getD l k 0 < n) → (k : ℕ) → k < length (l ++ cond t (n ∷ []) []) → getD (l ++ cond t (n ∷ []) []) k 0 < suc n
-    go true p k h = ⊎-elim
-        (λ a. let last : k ≡ length l = omega (arith, length-append l (n ∷ [])) in
-        let here : getD (l ++ (n ∷ [])) k 0 ≡ n = ap (λ m. getD (l ++ (n ∷ [])) m 0) last ∙ getD-append-seam l n [] 0 in
-        omega arith)
-        (λ a. omega (arith, List·getD-append l (n ∷ []) 0 k a, p k a))
-        (le-or-lt (length l) k)
-    go false p k h =
-        let less : k < length l = omega (arith, length-append l []) in
-        omega (arith, List·getD-append l [] 0 k less, p k less)
+  pub waves-descending : (u : List Float) → sweptDown g ls (waves g at) b u ≡ descending g ls at b u
+  unfolding sweptDown
+  waves-descending u = wave-down g ls (isAir ls) b at u ∙ chosen-descending u
+
+pub waves-in : (g : Sides) (at : ℕ → Bool) → Below (cells g) (waves g at)
+waves-in g at = record { at = waves-below g at }

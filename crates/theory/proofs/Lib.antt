@@ -4,6 +4,8 @@ pub mod Region
 pub mod Hits
 pub mod Sides
 pub mod Neighbours
+pub mod Orders
+pub mod Relaxed
 pub mod Numbers
 pub mod Residual
 pub mod Counting
@@ -20,6 +22,7 @@ pub mod Question3
 pub mod Instances
 pub mod Sizes
 pub mod Places
+pub mod Waves
 pub mod Children
 pub mod Kept
 pub mod Digits

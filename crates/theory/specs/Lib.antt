@@ -4,3 +4,4 @@ pub mod Exact
 pub mod Answered
 pub mod Levels
 pub mod Sessions
+pub mod Waves

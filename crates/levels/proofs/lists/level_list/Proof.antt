@@ -21,29 +21,29 @@ add-to c = search levelling
 add-if1 : tie.Need-add-if1
 add-if1 c = search levelling
 
-sub-band-list : tie.Need-sub-band-list
-sub-band-list c = search levelling
+sub-wave-list : tie.Need-sub-wave-list
+sub-wave-list c = search levelling
 
-part-band-list-start : tie.Need-part-band-list-start
-part-band-list-start c = search levelling
+part-wave-list-start : tie.Need-part-wave-list-start
+part-wave-list-start c = search levelling
 
-part-band-list-end : tie.Need-part-band-list-end
-part-band-list-end c = search levelling
+part-wave-list-end : tie.Need-part-wave-list-end
+part-wave-list-end c = search levelling
 
-band-list-requires : tie.Need-band-list-requires
-band-list-requires c κs = search levelling
+wave-list-requires : tie.Need-wave-list-requires
+wave-list-requires c κs = search levelling
 
-sub-air-list : tie.Need-sub-air-list
-sub-air-list c = search levelling
+sub-wave-list-2 : tie.Need-sub-wave-list-2
+sub-wave-list-2 c = search levelling
 
-part-air-list-start : tie.Need-part-air-list-start
-part-air-list-start c = search levelling
+part-wave-list-start-2 : tie.Need-part-wave-list-start-2
+part-wave-list-start-2 c = search levelling
 
-part-air-list-end : tie.Need-part-air-list-end
-part-air-list-end c = search levelling
+part-wave-list-end-2 : tie.Need-part-wave-list-end-2
+part-wave-list-end-2 c = search levelling
 
-air-list-requires : tie.Need-air-list-requires
-air-list-requires c κs = search levelling
+wave-list-requires-2 : tie.Need-wave-list-requires-2
+wave-list-requires-2 c κs = search levelling
 
 same-length : tie.Need-same-length
 same-length c = search levelling
@@ -67,14 +67,14 @@ level-list-spec =
     cell-count-requires
     add-to
     add-if1
-    sub-band-list
-    part-band-list-start
-    part-band-list-end
-    band-list-requires
-    sub-air-list
-    part-air-list-start
-    part-air-list-end
-    air-list-requires
+    sub-wave-list
+    part-wave-list-start
+    part-wave-list-end
+    wave-list-requires
+    sub-wave-list-2
+    part-wave-list-start-2
+    part-wave-list-end-2
+    wave-list-requires-2
     same-length
     returns
     same-length-2
