@@ -1,4 +1,5 @@
 // The cast in code.
+pub mod entry;
 pub mod interior;
 pub mod near;
 pub mod place;

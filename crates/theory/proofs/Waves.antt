@@ -128,6 +128,12 @@ chosen-hit p n c h =
     let r = strung-some (λ c. kept (p c) c) c n (rw chosen-strung at h) in
     omega (arith, r .1, hits-kept (p (r .0)) (r .0) c (r .2) .1)
 
+pub chosen-pass : (p : ℕ → Bool) (n c : ℕ) → 1 ≤ hits (chosen p n) c → p c ≡ true
+chosen-pass p n c h =
+    let r = strung-some (λ c. kept (p c) c) c n (rw chosen-strung at h) in
+    let q = hits-kept (p (r .0)) (r .0) c (r .2) in
+    ap p (sym (q .1)) ∙ q .0
+
 chosen-sorted : (p : ℕ → Bool) (n : ℕ) → Sorted (λ c. c) (chosen p n)
 chosen-sorted p n = rw chosen-strung
     (strung-sorted (λ c. c) (λ c. kept (p c) c) (λ i c h. sym (hits-kept (p i) i c h .1))
@@ -224,6 +230,9 @@ module _ (s : Sides) (p : ℕ → Bool) where
 
   pub waves-below : (k : ℕ) → k < length (waves s p) → getD (waves s p) k 0 < cells s
   waves-below k h = waves-hit s p (getD (waves s p) k 0) (hits-at (waves s p) k h)
+
+  pub waves-pass : (k : ℕ) → k < length (waves s p) → p (getD (waves s p) k 0) ≡ true
+  waves-pass k h = let c = getD (waves s p) k 0 in chosen-pass p (cells s) c (omega (arith, waves-chosen s p c, hits-at (waves s p) k h))
 
 -- ---- THE LAWS: over the waves of the cells that pass a test, and over those cells in ascending number
 module _ (s : Sides) (ls : List ℕ) (at : ℕ → Bool) (b : List Float) (p : ℕ → Bool) where
