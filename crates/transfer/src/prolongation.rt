@@ -1,4 +1,4 @@
-// Prolongation: each fine air cell has the weighted sum of eight coarse cells over 256, which is added to the fine u.
+// Prolongation: each fine air cell has the weighted sum of eight coarse cells over 16, which is added to the fine u.
 ghost use mathlib.Core.Path.{_≡_};
 ghost use Prim.Native.Nat.{_+_, _-_, _*_, _/_, _%_, _≤_, _<_};
 ghost use lib.ListN.{length};
@@ -83,7 +83,7 @@ fn given(below: &[u8], w: &[f64], g: method::Sides, h: method::Sides, c: usize) 
         a = give(below, w, h, p, t, a);
         t += 1;
     }
-    a / 256.0
+    a / 16.0
 }
 
 // The corrected value of fine cell c, whose value is old: 0 where the cell is no air.
