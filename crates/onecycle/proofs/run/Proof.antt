@@ -12,8 +12,11 @@ all-labels-requires c κs = search running
 all-lists-requires : tie.Need-all-lists-requires
 all-lists-requires c κs = search running
 
+end-in-zero-requires : tie.Need-end-in-zero-requires
+end-in-zero-requires c κs = search running
+
 cycles-requires : tie.Need-cycles-requires
-cycles-requires c κs = search running
+cycles-requires c κs = (search running, search running)
 
 same-length : tie.Need-same-length
 same-length c = search running
@@ -34,6 +37,7 @@ run-spec =
     levels-of-requires
     all-labels-requires
     all-lists-requires
+    end-in-zero-requires
     cycles-requires
     same-length
     same-length-2
