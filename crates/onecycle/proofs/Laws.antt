@@ -116,7 +116,7 @@ module _ (g : Sides) (count : ℕ) (ls old words : List ℕ) (r : ℕ) (z : Aske
       (zero-end e (fieldsFrom (base l) count 0)
       (rw (base-is g l el) (omega (arith, fields-most g count (z .fit) (z .most), z .room-enough))))
 
-pub ruleset running = (needs, asked-labels, asked-lists, run-ready, run-end, run-is)
+pub ruleset running = (needs, asked-labels, asked-lists, run-is)
 
 -- ---- the rooms of a cast
 module _ (g : Sides) (count n bytes words room : ℕ) (z : Asked g count n bytes words room) where
