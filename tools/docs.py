@@ -15,7 +15,7 @@ import sys
 
 sys.dont_write_bytecode = True
 ROOT = os.path.dirname(os.path.dirname(os.path.abspath(__file__)))
-PAGES = ("README.md", "docs/SESSION.md", "docs/ANSWERS.md", "docs/WALK.md")
+PAGES = ("README.md", "docs/SESSION.md", "docs/ANSWERS.md", "docs/WALK.md", "docs/TRUST.md")
 FENCE = "```"
 
 
