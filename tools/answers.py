@@ -217,7 +217,7 @@ def bound_row(name, session, by_hand):
 
 
 def bounds():
-    for tolerance in (6, 3, 1):
+    for tolerance in (1000, 30, 3, 1):
         print(bound_row("the throat sample", throat(tolerance=tolerance, rounds=1000), True))
     print(bound_row("a room of 32 × 32 × 32", room((32, 32, 32)), False))
     return 0

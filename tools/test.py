@@ -15,6 +15,8 @@ import unittest
 import zlib
 
 sys.dont_write_bytecode = True
+import answers
+import docs
 import explain
 import form
 import session
@@ -302,6 +304,26 @@ class Explain(Case):
                 self.assertEqual(form.parse_print(done.stdout)[0]["answer"], number)
 
 
+class Pages(Case):
+    def test_a_page_that_says_something_else(self):
+        page = ["# A page", "```console", "$ echo one; echo two", "one", "three", "$ printf '%s\\n' \\", "> four", "four", "```", "$ false"]
+        self.assertEqual(docs.renewed(page), (page[:4] + ["two"] + page[5:], 2))
+
+    def test_an_answer_that_is_another(self):
+        self.assertTrue(answers.fits("`answer=10`, `place=1`", {"answer": 10, "place": 1}))
+        self.assertTrue(answers.fits("`answer=9`, or `answer=8`", {"answer": 8, "place": 0}))
+        self.assertFalse(answers.fits("`answer=10`, `place=1`", {"answer": 10, "place": 2}))
+        self.assertFalse(answers.fits("`answer=10`, `place=1`", {"answer": 11, "place": 1}))
+        self.assertFalse(answers.fits("nothing", {"answer": 0, "place": 0}))
+
+    def test_exact_solution(self):
+        """1 0 0 1 with levels 0 and 30, case f: 10 and 20; with 1 and 0 two thirds and one third."""
+        cast = Session((4, 1, 1), "big", 0, 1, 5, [OPENING, AIR, AIR, OPENING], [0, 0, 0, 30])
+        self.assertEqual(answers.exact(cast), {1: 10, 2: 20})
+        cast.values = [1, 0, 0, 0]
+        self.assertEqual([3 * pressure for pressure in (answers.exact(cast)[1], answers.exact(cast)[2])], [2, 1])
+
+
 class Script(Case):
     def run_script(self, *words, script=form.SCRIPT, **how):
         how.setdefault("stdin", subprocess.DEVNULL)
@@ -365,6 +387,8 @@ class Script(Case):
         real = os.path.dirname(os.path.dirname(os.path.realpath(shutil.which("rt"))))
         os.makedirs(self.path("kit", "bin"))
         os.symlink(os.path.join(real, "on"), self.path("kit", "on"))
+        if os.path.exists(program):
+            program = shutil.copy(program, self.path("kit", "airway"))
         with open(self.path("kit", "bin", "rt"), "w") as file:
             file.write("#!/bin/sh\n[ \"$1\" = check ] || exit 2\n[ -z \"$RT_FAILS\" ] || { echo 'rt: laws: not proved'; exit 1; }\nmkdir -p target/log target/bin\n"
                        "for c in laws method airway; do sleep 0.05; : > target/log/$c.out; sleep 0.5; echo \"rt: $c proved (1 s)\"; done\n"
