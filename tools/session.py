@@ -7,7 +7,7 @@
     session.py convert SESSION OUT --to big|little
 
 `make` puts a stack of label images (PGM, .npy or CSV, slice 0 first; x to the right, y down) together: each number in the images is named once, as air, wall or an
-opening with its level. `show` draws slices in the terminal, and with --png as a picture; with the program's print the pressures too. `check` lists all bad cells and all
+opening with its level. `show` draws slices in the terminal (in colours where it is one), and with --png as a picture; with the program's print the pressures too. `check` lists all bad cells and all
 sealed pockets. `convert` writes the same session in the other byte order. No order is ever guessed: a session names its own, and `make` has to be told."""
 import argparse
 import ast
@@ -221,13 +221,21 @@ def mark(session, pressures, scale, cell):
     return "." if label == AIR else "O"
 
 
-def drawn(session, pressures, k):
+def painted(session, pressures, scale, cell):
+    """A mark on its colour, for a terminal."""
+    red, green, blue = pixel(session, pressures, scale, cell, False)
+    ink = 30 if red + green + blue > 300 else 97
+    return f"\x1b[{ink};48;2;{red};{green};{blue}m{mark(session, pressures, scale, cell)}\x1b[0m"
+
+
+def drawn(session, pressures, k, coloured=False):
     """The lines of slice k."""
     nx, ny, _ = session.sides
     scale = range_of(session, pressures) if pressures else None
+    draw = painted if coloured else mark
     yield f"slice {k} (x to the right, y down)"
     for j in range(ny):
-        yield "  " + "".join(mark(session, pressures, scale, form.cell_of(session.sides, i, j, k)) for i in range(nx))
+        yield "  " + "".join(draw(session, pressures, scale, form.cell_of(session.sides, i, j, k)) for i in range(nx))
 
 
 def legend(session, pressures):
@@ -239,6 +247,7 @@ def legend(session, pressures):
 
 TISSUE = (40, 40, 48)
 EDGE = (255, 255, 255)
+GAP = (120, 120, 128)
 
 
 def colour(share):
@@ -268,7 +277,7 @@ def picture(session, pressures, chosen, size=12):
     for y in range(ny * size):
         row = bytearray()
         for number, k in enumerate(chosen):
-            row += bytes(TISSUE) * (size // 2 if number else 0)
+            row += bytes(GAP) * (size // 2 if number else 0)
             for x in range(nx * size):
                 at_edge = x % size in (0, size - 1) or y % size in (0, size - 1)
                 row += bytes(pixel(session, pressures, scale, form.cell_of(session.sides, x // size, y // size, k), at_edge))
@@ -335,7 +344,7 @@ def show(options):
         return 0
     print(legend(session, pressures))
     for k in chosen:
-        for line in drawn(session, pressures, k):
+        for line in drawn(session, pressures, k, sys.stdout.isatty()):
             print(line)
     return 0
 

@@ -7,10 +7,12 @@
 Each session is answered by ./airway. A damaged one stands in the table with its answer, its reason and its place, and has no pressures. `bound` is the proved bound on the error
 of each pressure (docs/ANSWERS.md), `least` and `greatest` are pressures of what is not wall. A line of progress goes to standard error.
 
-One session is one process and nothing is shared, so a shelf can be split as one likes. Over many machines, each with a clone of the same state where `./airway --build --large`
-was run once, by GNU parallel:
+One session is one process and nothing is shared, so a shelf can be split as one likes. Over many machines, each with a clone of the same state in ~/quetzalcup where
+`./airway --build --large` was run once, by GNU parallel, from such a clone:
 
-    find shelf -name '*.session' | sort | parallel --keep-order --sshloginfile machines --transferfile {} -m python3 tools/table.py --no-header --large {} > rows.csv"""
+    python3 tools/table.py examples/example.session | head -n 1 > table.csv
+    find shelf -name '*.session' | sort | parallel --keep-order --sshloginfile machines --workdir quetzalcup --transferfile {} --cleanup \\
+        python3 tools/table.py --no-header --large {} >> table.csv"""
 import argparse
 import concurrent.futures
 import csv

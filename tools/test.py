@@ -5,6 +5,7 @@ import io
 import os
 import platform
 import pty
+import re
 import shutil
 import struct
 import subprocess
@@ -156,6 +157,12 @@ class Show(Case):
     def test_slices(self):
         status, said, _ = self.tool("session.py", "show", self.file("d.session", small().bytes()))
         self.assertEqual((status, said), (0, "'.' air, 'O' opening, '#' wall\nslice 0 (x to the right, y down)\n  O.#.#\n"))
+
+    def test_colours(self):
+        """On a terminal the same marks, each on its colour."""
+        plain, coloured = (list(session.drawn(small(), [], 0, colours)) for colours in (False, True))
+        self.assertEqual(re.sub(r"\x1b\[[0-9;]*m", "", coloured[1]), plain[1])
+        self.assertIn("48;2;40;40;48m#", coloured[1])
 
     def test_pressures(self):
         answer = self.file("print", subprocess.run([form.SCRIPT], input=content(EXAMPLE), stdout=subprocess.PIPE, check=True).stdout)
