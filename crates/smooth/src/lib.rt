@@ -14,6 +14,8 @@ ghost use Rattle.theory.proofs.Sides.{Fit};
 ghost use Rattle.smooth.specs.Fields.{u-of, b-of, t-of, Level, jacobiTurn, residueTurn};
 ghost use Rattle.smooth.specs.Sweeps.{sweptUp, sweptDown, Below};
 
+pub mod entries;
+
 // What the cells across a cell's faces come to: how many are no wall, and the sum over those that are air.
 struct Gathered {
     count: u32,
