@@ -15,6 +15,7 @@ ghost use Rattle.smooth.specs.Fields.{u-of, b-of, t-of, Level, jacobiTur
 ghost use Rattle.smooth.specs.Sweeps.{sweptUp, sweptDown, Below};
 
 pub mod entries;
+pub mod stencils;
 
 // What the cells across a cell's faces come to: how many are no wall, and the sum over those that are air.
 struct Gathered {
@@ -137,7 +138,7 @@ pub fn sweep_down(room: &mut [f64], labels: &[u8], list: &[u32], g: method::Side
 }
 
 // The old u goes to t.
-fn keep_u(room: &mut [f64], n: usize)
+pub(crate) fn keep_u(room: &mut [f64], n: usize)
     requires { ⌜ 3 * n ≤ length (now room) ⌝ }
     ensures { λ _. ⌜ now (room .exit) ≡ take (2 * n) (now (room .entry)) ++ (take n (now (room .entry)) ++ drop (3 * n) (now (room .entry))) ⌝ }
 {
@@ -225,6 +226,18 @@ pub fn clear_front(room: &mut [f64], n: usize)
     let mut c = 0;
     while c < n {
         room[c] = 0.0;
+        c += 1;
+    }
+}
+
+// The n elements from `from` on become zero.
+pub fn clear_from(room: &mut [f64], from: usize, n: usize)
+    requires { ⌜ from + n ≤ length (now room) ⌝ }
+    ensures { λ _. ⌜ now (room .exit) ≡ take from (now (room .entry)) ++ (tab n (λ c. +0) ++ drop (from + n) (now (room .entry))) ⌝ }
+{
+    let mut c = 0;
+    while c < n {
+        room[from + c] = 0.0;
         c += 1;
     }
 }
