@@ -9,6 +9,7 @@ use borrow.Author.Tests.{lt-ltb, le-ltb}
 use borrow.Rule.Slice.PartMut.{midOf, putMid, same-len-mid}
 use mir.Syntax.{w64}
 use mir.Val.{Fits}
+use lib.Dec.{ltb}
 use lib.ListN.{length, getD, take, drop, length-append, length-drop}
 use lib.Seq.{take-at, drop-at, length-take-le, drop-drop, take-take, take-append-le}
 use lib.Ieee.{Float}
@@ -21,19 +22,22 @@ use Rattle.theory.specs.Levels.{sidesAt, labelsAt, cellsBefore}
 use Rattle.theory.proofs.Sides.{Fit}
 use Rattle.theory.proofs.Sizes.{fit-at}
 use Rattle.theory.proofs.Kept.{length-kept}
+use Rattle.theory.specs.Quiet.{Quiet}
+use Rattle.theory.proofs.Quiet.{quiet-corrected}
 use Rattle.grid.proofs.Steps.{cells-most}
 use Rattle.levels.specs.declared.sides.Levels.{Levels}
 use Rattle.levels.specs.declared.lists.Lists.{Lists}
 use Rattle.levels.specs.Levels.{base, startIn, sidesIn}
-use Rattle.levels.specs.Lists.{smoothed, listOf}
-use Rattle.levels.specs.AllLists.{partIn, baseLabels, listAt}
+use Rattle.levels.specs.Lists.{smoothed, listOf, airOf}
+use Rattle.levels.specs.AllLists.{partIn, baseLabels, listAt, airAt}
 use Rattle.levels.proofs.Starts.{start-of, sides-of}
 use Rattle.levels.proofs.Calls.{before-up-to}
 use Rattle.smooth.specs.Fields.{u-of, b-of, Level}
 use Rattle.smooth.proofs.After.{inAir-length}
 use Rattle.transfer.specs.Transfer.{TwoLevels, correctedRoom}
-use Rattle.cycle.specs.Strokes.{entriesWhere, Ended, Put, rising, Lowered}
-use Rattle.cycle.specs.Rooms.{listFrom, fieldsFrom, Ready, sidesOf, cellsOf, labelsOf, cycleFrom, Cycled, correction, Corrected, LabelsAt, ListAt}
+use Rattle.cycle.specs.Strokes.{entriesWhere, AirList, Ended, Put, rising, Lowered}
+use Rattle.cycle.specs.Rooms.{listFrom, airFrom, fieldsFrom, Ready, sidesOf, cellsOf, labelsOf, cycleFrom, Cycled, correction, Corrected, LabelsAt, ListAt, AirAt}
+use Rattle.cycle.proofs.Air.{air-entries}
 use Rattle.cycle.proofs.Laws.{end-kept, end-less, end-lent, put-then, put-as, put-later, later, clear-put, part-first, lent-is, home-is}
 
 -- ---- a level's part of the rooms of bytes and words
@@ -60,7 +64,14 @@ list-is s k words =
     let r : getD (s .start) k 0 + getD (s .count) k 0 - getD (s .start) k 0 ≡ getD (s .count) k 0 = omega arith in
     ap (λ j. take j (drop (getD (s .start) k 0) words)) r
 
-pub ruleset parts = (needs, part-fit, part-end, part-fits, part-is, list-is)
+pub air-is : (s : Lists) (k : ℕ) (words : List ℕ)
+    → take (getD (s .start) k 0 + getD (s .air) k 0 - getD (s .start) k 0) (drop (getD (s .start) k 0) words) ≡ airFrom s k words
+unfolding airFrom
+air-is s k words =
+    let r : getD (s .start) k 0 + getD (s .air) k 0 - getD (s .start) k 0 ≡ getD (s .air) k 0 = omega arith in
+    ap (λ j. take j (drop (getD (s .start) k 0) words)) r
+
+pub ruleset parts = (needs, part-fit, part-end, part-fits, part-is, list-is, air-is)
 
 -- ---- the fields of the levels from k on: those of level k, and those of the levels from k + 1 on
 sides-next : (g : Sides) (k : ℕ) → sidesAt g (k + 1) ≡ halved (sidesAt g k)
@@ -106,6 +117,9 @@ module _ {l : Levels} {s : Lists} {count k : ℕ} {bytes words : List ℕ} {r : 
 
   pub list-asked : ListAt s k (length words)
   list-asked = record { below = six; inside = omega (arith, z .prepared .ends k (z .below), z .prepared .within k (z .below)) }
+
+  pub air-asked : AirAt s k (length words)
+  air-asked = record { below = six; inside = z .prepared .ends k (z .below) }
 
   labels-here : partIn l k bytes ≡ labelsOf l bytes k
   unfolding partIn
@@ -174,6 +188,17 @@ module _ {l : Levels} {s : Lists} {count k : ℕ} {bytes words : List ℕ} {r : 
         labelled = labelled-here;
         roomy = omega (arith, ap cells same-sides, room-own);
       }
+
+      pub all-air : {es : List ℕ} → es ≡ airFrom s k words → AirList g ls es
+      unfolding airAt
+      all-air ea =
+          air-entries g ls (ltb (k + 1) count) clear-fit labelled-here
+          (ea ∙ z .prepared .air k (z .below) ∙ ap₂ (airOf (ltb (k + 1) count)) (sym same-sides) (sym same-labels))
+
+      pub corrected-quiet : (e d : List Float) → Corrected l bytes count k e d → Quiet g ls (u-of (cells g) d)
+      corrected-quiet e d p =
+          let there : Quiet (sidesOf l k) (labelsOf l bytes k) (u-of (cellsOf l k) d) = rw (p .u) (quiet-corrected _ _) in
+          rw (same-sides, same-labels) there
 
       module _ {cs : List ℕ} (ec : cs ≡ listFrom s k words) where
         list-here : cs ≡ listAt (base l) (baseLabels l bytes) count k
@@ -357,4 +382,4 @@ module _ {l : Levels} {s : Lists} {count k : ℕ} {bytes words : List ℕ} {r : 
         (correct-home (sidesOf l k) (sidesOf l (k + 1)) (labelsOf l bytes k) (fieldsFrom (base l) count (k + 1)) (cycleFrom l bytes count (k + 1)) e d c x
         (omega (arith, fields-two z more, z .roomy)) (omega (arith, fields-next (base l) count (k + 1) more)) low′ p′ o″)
 
-pub ruleset cycles = (needs, labels-asked, list-asked, clear-fit, clear-room, labels-asked-next, two-levels, two-rooms, lent-long, cycle-last)
+pub ruleset cycles = (needs, labels-asked, list-asked, air-asked, clear-fit, clear-room, labels-asked-next, two-levels, two-rooms, lent-long, cycle-last)
