@@ -1,6 +1,7 @@
 -- The proof of the cycle of calls {coarse_correction, cycle}. The measure is twice the levels left, and one less in the correction.
 -- Assumes nothing.
 use mathlib.Core.Path.{refl, _∙_}
+use native.Mathlib.Omega.{arith}
 use borrow.Author.Needs.{needs}
 use Rattle.cycle.proofs.Levels.{cycles, labels-few, level-asked, air-listed, band-listed, cleared, cleared-end, stroke-end, corrected-end, level-end, same-ready, all-air, corrected-quiet, two-levels, two-rooms, lent-ready, lent-end, home-room, corrected-is, cycle-more}
 use Prim.Native.Nat.{ℕ, _+_, _-_, _<_}
@@ -153,7 +154,10 @@ coarse-correction-part-cycle-end : (t : ℕ) → coarse-correction-lts.Need-part
 coarse-correction-part-cycle-end t c = search cycles
 
 coarse-correction-add-cycle : (t : ℕ) → coarse-correction-lts.Need-add-cycle (cc-calls t) (coarse-correction-at t) coarse-correction.Post
-coarse-correction-add-cycle t c = search cycles
+coarse-correction-add-cycle t c =
+    let at-lower = c .before .before .before in
+    let start = at-lower .before .before .before .before .before .before .before .before .before .before in
+    omega (arith, start .pre .1 .1 .1, start .pre .1 .0 .prepared .most)
 
 coarse-correction-cycle-requires : (t : ℕ) → coarse-correction-lts.Need-cycle-requires (cc-calls t) (coarse-correction-at t) coarse-correction.Post
 coarse-correction-cycle-requires t c κs =
