@@ -12,13 +12,15 @@ use mir.Val.{Fits}
 use lib.ListN.{length, getD, take, drop, length-append, length-drop}
 use lib.Seq.{take-at, drop-at, length-take-le, drop-drop, take-take, take-append-le}
 use lib.Ieee.{Float}
+use Rattle.laws.proofs.Lists.{length-tab}
 use Rattle.laws.proofs.Fill.{part-take}
 use Rattle.method.specs.declared.Sides.{Sides}
 use Rattle.method.specs.Cast.{cells, isAir}
 use Rattle.method.specs.Levels.{halved, coarse, inBand, restricted}
 use Rattle.method.specs.Cycle.{cycle, coarsest, downstroke, upstroke, corrected, residue, zeros}
-use Rattle.theory.specs.Waves.{waves}
 use Rattle.theory.specs.Levels.{sidesAt, labelsAt, cellsBefore}
+use Rattle.theory.specs.Quiet.{Quiet}
+use Rattle.theory.proofs.Quiet.{quiet-cycle}
 use Rattle.theory.proofs.Sides.{Fit}
 use Rattle.theory.proofs.Sizes.{fit-at}
 use Rattle.theory.proofs.Kept.{length-kept}
@@ -30,12 +32,13 @@ use Rattle.levels.specs.Lists.{smoothed, listOf}
 use Rattle.levels.specs.AllLists.{partIn, baseLabels, listAt}
 use Rattle.levels.proofs.Starts.{start-of, sides-of}
 use Rattle.levels.proofs.Calls.{before-up-to}
-use Rattle.smooth.specs.Fields.{u-of, b-of, Level}
+use Rattle.smooth.specs.Fields.{u-of, b-of, Level, Laid}
+use Rattle.smooth.proofs.Fields.{laid-u, laid-b, laid-follows}
 use Rattle.smooth.proofs.After.{inAir-length}
-use Rattle.transfer.specs.Transfer.{TwoLevels, correctedRoom}
-use Rattle.cycle.specs.Strokes.{Put, rising, Lowered}
+use Rattle.transfer.specs.Transfer.{TwoLevels, summed, correctedRoom}
+use Rattle.cycle.specs.Strokes.{entriesWhere, Ended, Put, rising, Lowered}
 use Rattle.cycle.specs.Rooms.{listFrom, fieldsFrom, Ready, sidesOf, cellsOf, labelsOf, cycleFrom, Cycled, correction, Corrected, LabelsAt, ListAt}
-use Rattle.cycle.proofs.Laws.{put-then, put-as, put-later, later, clear-put, part-first, lent-is, home-is}
+use Rattle.cycle.proofs.Laws.{end-kept, end-less, end-lent, put-then, put-as, put-later, later, clear-put, laid-long, part-first, lent-is, home-is}
 
 -- ---- a level's part of the rooms of bytes and words
 pub part-fit : (l : Levels) (k n : ℕ) (g : Sides) → LabelsAt l k n → g ≡ sidesIn l k → Fit g
@@ -122,6 +125,13 @@ module _ {l : Levels} {s : Lists} {count k : ℕ} {bytes words : List ℕ} {r : 
   pub same-ready : (m : ℕ) → m ≡ r → Ready l s count k bytes words m
   same-ready m q = rw q z
 
+  own-fields : 3 * cellsOf l k ≤ fieldsFrom (base l) count k
+  own-fields = omega (arith, fields-next (base l) count k (z .below))
+
+  -- after a correction
+  pub corrected-end : (e d : List Float) → Ended (fieldsFrom (base l) count k) e → Corrected l bytes count k e d → Ended (fieldsFrom (base l) count k) d
+  corrected-end e d n p = end-kept (fieldsFrom (base l) count k) (fieldsFrom (base l) count k) (omega arith) (p .beyond) (p .long) n
+
   room-own : 3 * cellsOf l k ≤ r
   room-own = omega (arith, fields-next (base l) count k (z .below), z .roomy)
 
@@ -138,6 +148,19 @@ module _ {l : Levels} {s : Lists} {count k : ℕ} {bytes words : List ℕ} {r : 
 
     pub cleared : (e d : List Float) → length e ≡ r → d ≡ zeros g ++ drop (cells g) e → u-of (cells g) d ≡ zeros g
     cleared e d q p = clear-put g [] e d (omega (arith, ap cells same-sides, room-own)) p .u
+
+    -- the zero at the room's end, where u is cleared
+    pub cleared-end : (e d : List Float) → length e ≡ r → Ended (fieldsFrom (base l) count k) e → d ≡ zeros g ++ drop (cells g) e → Ended (fieldsFrom (base l) count k) d
+    cleared-end e d q n p =
+        let put = clear-put g [] e d (omega (arith, ap cells same-sides, room-own)) p in
+        end-kept (3 * cells g) (fieldsFrom (base l) count k) (omega (arith, ap cells same-sides, own-fields)) (put .beyond) (put .long) n
+
+    -- after a stroke, and for one
+    pub stroke-end : (v e d : List Float) → Ended (fieldsFrom (base l) count k) e → Put (cells g) (3 * cells g) v e d → Ended (fieldsFrom (base l) count k) d
+    stroke-end v e d n p = end-kept (3 * cells g) (fieldsFrom (base l) count k) (omega (arith, ap cells same-sides, own-fields)) (p .beyond) (p .long) n
+
+    pub level-end : {d : List Float} → Ended (fieldsFrom (base l) count k) d → Ended (3 * cells g) d
+    level-end n = end-less (3 * cells g) (fieldsFrom (base l) count k) (omega (arith, ap cells same-sides, own-fields)) n
 
     module _ {ls : List ℕ} (el : ls ≡ partIn l k bytes) where
       same-labels : ls ≡ labelsOf l bytes k
@@ -160,17 +183,17 @@ module _ {l : Levels} {s : Lists} {count k : ℕ} {bytes words : List ℕ} {r : 
         list-here : cs ≡ listAt (base l) (baseLabels l bytes) count k
         list-here = ec ∙ z .prepared .lists k (z .below)
 
-        pub band-listed : k + 1 < count → cs ≡ waves g (inBand g ls)
+        pub band-listed : k + 1 < count → cs ≡ entriesWhere g ls (inBand g ls)
         unfolding listAt listOf smoothed
         band-listed h =
             list-here ∙ ap (λ b. listOf b (sidesOf l k) (labelsOf l bytes k)) (lt-ltb (k + 1) count h)
-            ∙ ap₂ (λ m c. waves m (inBand m c)) (sym same-sides) (sym same-labels)
+            ∙ ap₂ (λ m c. entriesWhere m c (inBand m c)) (sym same-sides) (sym same-labels)
 
-        pub air-listed : count ≤ k + 1 → cs ≡ waves g (isAir ls)
+        pub air-listed : count ≤ k + 1 → cs ≡ entriesWhere g ls (isAir ls)
         unfolding listAt listOf smoothed
         air-listed h =
             list-here ∙ ap (λ b. listOf b (sidesOf l k) (labelsOf l bytes k)) (le-ltb (k + 1) count h)
-            ∙ ap₂ (λ m c. waves m (isAir c)) (sym same-sides) (sym same-labels)
+            ∙ ap₂ (λ m c. entriesWhere m c (isAir c)) (sym same-sides) (sym same-labels)
 
         -- the coarsest level
         pub cycle-last : (e d x : List Float) → length e ≡ r → count ≤ k + 1 → d ≡ zeros g ++ drop (cells g) e
@@ -232,6 +255,10 @@ corrected-length : (g : Sides) (ls : List ℕ) (u w : List Float) → length (co
 unfolding corrected
 corrected-length g ls u w = inAir-length g ls _
 
+summed-length : (g : Sides) (ls : List ℕ) (w : List Float) → length (summed g ls w) ≡ cells g
+unfolding summed
+summed-length g ls w = length-tab (cells g) _
+
 -- the next level's u, from the b that it was given, corrects this level's u
 module _ (g h : Sides) (ls : List ℕ) (m : ℕ) (f : List Float → List Float) (e d c x : List Float) (room : 3 * cells g + 3 * cells h ≤ length e) (two : 3 * cells h ≤ m) where
   correct-home : Lowered g h ls e d → Put (cells h) m (f (b-of (cells h) (drop (3 * cells g) d))) (drop (3 * cells g) d) c
@@ -248,26 +275,25 @@ module _ (g h : Sides) (ls : List ℕ) (m : ℕ) (f : List Float → List Float)
       let tail : drop (3 * cells g) (take (3 * cells g) d ++ c) ≡ c = drop-at top c (3 * n) top-long in
       let new : take (cells h) (drop (3 * cells g) (take (3 * cells g) d ++ c)) ≡ f (restricted g ls (residue g ls (b-of (cells g) e) (u-of (cells g) e))) =
       ap (take (cells h)) tail ∙ p .u ∙ ap f (low .below) in
-      let is : x ≡ corrected g ls (u-of (cells g) e) (f (restricted g ls (residue g ls (b-of (cells g) e) (u-of (cells g) e)))) ++ drop (cells g) (take (3 * cells g) d ++ c) =
-      q ∙ ap₂ (λ u w. corrected g ls u w ++ drop (cells g) (take (3 * cells g) d ++ c)) old new in
-      let rest : drop (cells g) x ≡ drop (cells g) (take (3 * cells g) d ++ c) = ap (drop n) is ∙ drop-at v (drop n y) n (corrected-length g ls _ _) in
+      let w = f (restricted g ls (residue g ls (b-of (cells g) e) (u-of (cells g) e))) in
+      let mid = take (cells g) (drop (cells g) (take (3 * cells g) d ++ c)) in
+      let sums = summed g ls (f (restricted g ls (residue g ls (b-of (cells g) e) (u-of (cells g) e)))) in
+      let laid-here : Laid (cells g) (corrected g ls (u-of (cells g) e) (f (restricted g ls (residue g ls (b-of (cells g) e) (u-of (cells g) e)))))
+          (take (cells g) (drop (cells g) (take (3 * cells g) d ++ c))) (summed g ls (f (restricted g ls (residue g ls (b-of (cells g) e) (u-of (cells g) e)))))
+          (drop (3 * cells g) (take (3 * cells g) d ++ c)) x = record {
+            is = q ∙ ap₂ (λ u w. corrected g ls u w ++ (take (cells g) (drop (cells g) (take (3 * cells g) d ++ c)) ++ (summed g ls w ++ drop (3 * cells g) (take (3 * cells g) d ++ c)))) old new;
+            u-length = corrected-length g ls _ _;
+            b-length = length-take-le n (drop n y) (omega (arith, length-drop n y, length-append top c, top-long));
+            t-length = summed-length g ls _;
+          } in
+      let rest : drop (3 * cells g) x ≡ drop (3 * cells g) (take (3 * cells g) d ++ c) = laid-follows laid-here in
       record {
-        u = ap (take n) is ∙ take-at v (drop n y) n (corrected-length g ls _ _);
-        b = ap (take n) rest ∙ part-first top c n n (omega arith) ∙ part-take n n (3 * n) d (omega arith) ∙ low .b;
+        u = laid-u laid-here;
+        b = laid-b laid-here ∙ part-first top c n n (omega arith) ∙ part-take n n (3 * n) d (omega arith) ∙ low .b;
         beyond =
-            later n (3 * n + m) x y (omega arith) rest ∙ sym (drop-drop m (3 * n) y) ∙ ap (drop m) tail ∙ p .beyond ∙ drop-drop m (3 * n) d
+            later (3 * n) (3 * n + m) x y (omega arith) rest ∙ sym (drop-drop m (3 * n) y) ∙ ap (drop m) tail ∙ p .beyond ∙ drop-drop m (3 * n) d
             ∙ later (3 * n + 3 * cells h) (3 * n + m) d e (omega arith) (low .beyond);
-        long = omega (
-          arith,
-          ap length is,
-          length-append v (drop n y),
-          corrected-length g ls (u-of (cells g) e) (f (restricted g ls (residue g ls (b-of (cells g) e) (u-of (cells g) e)))),
-          length-drop n y,
-          length-append top c,
-          p .long,
-          length-drop (3 * n) d,
-          low .long,
-        );
+        long = omega (arith, laid-long laid-here, length-drop (3 * n) y, length-append top c, top-long, p .long, length-drop (3 * n) d, low .long);
       }
 
 -- ---- a correction, with g and ls, h and lc what the code has of this level and the next
@@ -308,9 +334,31 @@ module _ {l : Levels} {s : Lists} {count k : ℕ} {bytes words : List ℕ} {r : 
         ap length (lent-is (3 * length ls) d [] (lent-long d q)) ∙ length-drop (3 * length ls) d ∙ omega (arith, two-levels .all, ap cells g-is) in
         rw long (next-ready z more)
 
+    -- the zero at the end of what is lent, once the residual is restricted
+    pub lent-end : (e d : List Float) → length e ≡ r → Ended (fieldsFrom (base l) count k) e → Lowered g h ls e d
+        → Ended (fieldsFrom (base l) count (k + 1)) (midOf (3 * length ls) (length d - 3 * length ls) d)
+    lent-end e d q n low =
+        let a : 3 * length ls ≡ 3 * cellsOf l k = omega (arith, two-levels .all, ap cells g-is) in
+        let both : fieldsFrom (base l) count k ≡ 3 * length ls + fieldsFrom (base l) count (k + 1) = omega (arith, fields-next (base l) count k (z .below)) in
+        let here : Ended (fieldsFrom (base l) count k) d = end-kept (3 * cells g + 3 * cells h) (fieldsFrom (base l) count k) (omega (arith, ap cells g-is, ap cells h-is, fields-two z more)) (low .beyond) (low .long) n in
+        rw (lent-is (3 * length ls) d [] (lent-long d (low .long ∙ q))) (end-lent (3 * length ls) (fieldsFrom (base l) count (k + 1)) d (rw both at here))
+
     pub home-room : (d c : List Float) → length d ≡ r → length c ≡ length (midOf (3 * length ls) (length d - 3 * length ls) d)
         → 3 * cells g + 3 * cells h ≤ length (putMid (3 * length ls) (length d - 3 * length ls) d c)
     home-room d c q p = omega (arith, same-len-mid (3 * length ls) (length d - 3 * length ls) d c p, two-rooms)
+
+    -- the next level's u is +0 off air
+    pub home-quiet : (d c : List Float) → length d ≡ r → Cycled l bytes count (k + 1) (midOf (3 * length ls) (length d - 3 * length ls) d) c
+        → Quiet h lc (take (cells h) (drop (3 * cells g) (putMid (3 * length ls) (length d - 3 * length ls) d c)))
+    home-quiet d c q p =
+        let inside : 3 * length ls ≤ length d = lent-long d q in
+        let a : 3 * length ls ≡ 3 * cells g = omega (arith, two-levels .all) in
+        let here : drop (3 * cells g) (putMid (3 * length ls) (length d - 3 * length ls) d c) ≡ c =
+            ap (drop (3 * cells g)) (home-is (3 * length ls) d c inside) ∙ drop-at (take (3 * length ls) d) c (3 * cells g) (length-take-le (3 * length ls) d inside ∙ a) in
+        let u : take (cells h) (drop (3 * cells g) (putMid (3 * length ls) (length d - 3 * length ls) d c))
+            ≡ cycleFrom l bytes count (k + 1) (b-of (cellsOf l (k + 1)) (midOf (3 * length ls) (length d - 3 * length ls) d)) =
+            ap (take (cells h)) here ∙ ap (λ n. take n c) (ap cells h-is) ∙ p .u in
+        rw u (rw (h-is, lc-is) (quiet-cycle (k + 1) (count - 1 - (k + 1)) (sidesOf l (k + 1)) (labelsOf l bytes (k + 1)) _))
 
     pub corrected-is : (e d c x : List Float) → length e ≡ r → Lowered g h ls e d
         → Cycled l bytes count (k + 1) (midOf (3 * length ls) (length d - 3 * length ls) d) c

@@ -125,6 +125,6 @@ pub over-512 : ofBits binary64 4647714815446351872 ≡ ofℕ restrictionOver
 unfolding computing ofBits ofFields
 over-512 = refl
 
-pub over-256 : ofBits binary64 4643211215818981376 ≡ ofℕ prolongationOver
+pub over-16 : ofBits binary64 4625196817309499392 ≡ ofℕ prolongationOver
 unfolding computing ofBits ofFields
-over-256 = refl
+over-16 = refl

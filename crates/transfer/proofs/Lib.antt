@@ -6,3 +6,4 @@ pub mod Plain
 pub mod Sources
 pub mod Sums
 pub mod Ends
+pub mod Cases

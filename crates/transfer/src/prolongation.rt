@@ -1,5 +1,5 @@
 // Prolongation, a row of fine cells at a time: the four coarse rows in ascending order, each added to the sums of all fine cells of the row, which stand
-// in t. What isn't air holds +0.0 and adds nothing, so no coarse label is read; then each sum over 256 is added to u where the fine cell is air.
+// in t. What isn't air holds +0.0 and adds nothing, so no coarse label is read; then each sum over 16 is added to u where the fine cell is air.
 ghost use mathlib.Core.Path.{_≡_};
 ghost use Prim.Native.Nat.{_+_, _-_, _*_, _/_, _%_, _≤_, _<_};
 ghost use lib.ListN.{length, take, drop};
@@ -191,7 +191,7 @@ fn sum_rows(room: &mut [f64], g: method::Sides, h: method::Sides, n: usize, m: u
 fn corrected_value(label: u8, old: f64, sum: f64) -> f64
     ensures { λ r. ⌜ r ≡ plusAt label old sum ⌝ }
 {
-    if label == 0 { old + sum / 256.0 } else { 0.0 }
+    if label == 0 { old + sum / 16.0 } else { 0.0 }
 }
 
 // Fine cell c of the fine u, with its sum in t.
