@@ -170,6 +170,12 @@ module _ (g : Sides) (n from o m y z b c at : ℕ) (e : List Float) (q : at ≡ 
       rw (lt-ltb (placeAt g 1 b c) (cells g) (omega (arith, h .all)))
       (p ∙ ap₂ (λ w v. up (rowStep share (from + at) (g .nx) o w v) m e) a d ∙ ap (λ i. up (rowStep share (from + i) (g .nx) o (ofℕ (weightOf 0 j k)) (ofℕ (weightOf 1 j k))) m e) q)
 
+  -- the same, with the places among the four as they are worked out
+  pub source-as : (share : Share) (j k j′ k′ : ℕ) (w v : Float) (s : List Float) → j ≡ j′ → k ≡ k′ → at < n → w ≡ ofℕ (weightOf 0 j k) → v ≡ ofℕ (weightOf 1 j k)
+      → s ≡ up (rowStep share (from + at) (g .nx) o w v) m e → s ≡ sourceStep share g from o m b c j′ k′ e
+  source-as share j k j′ k′ w v s x y l a d p =
+      source-in share j′ k′ w v s l (a ∙ ap₂ (λ i r. ofℕ (weightOf 0 i r)) x y) (d ∙ ap₂ (λ i r. ofℕ (weightOf 1 i r)) x y) p
+
   pub source-out : (share : Share) (j k : ℕ) → n ≤ at → e ≡ sourceStep share g from o m b c j k e
   unfolding sourceStep
   source-out share j k l = rw (le-ltb (placeAt g 1 b c) (cells g) (omega (arith, h .all)))

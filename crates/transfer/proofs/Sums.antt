@@ -48,6 +48,9 @@ module _ (h : Sides) (z : Fit h) (m r : ℕ) (all : m ≡ cells h) (l : r < h .n
 pub plane-fits : (h : Sides) → Fit h → Fits w64 (h .ny * h .nz)
 plane-fits h z = record { fits = omega (arith, small-two (h .ny) (h .nz) (z .ny-32) (z .nz-32)) }
 
+pub row-fits : (h : Sides) (r : ℕ) → Fit h → r < h .ny * h .nz → Fits w64 (r + 1)
+row-fits h r z l = record { fits = omega (arith, small-two (h .ny) (h .nz) (z .ny-32) (z .nz-32)) }
+
 halves-next : (g : Sides) → Halves (g .nx) (halved g .nx)
 unfolding halved half
 halves-next g = record { enough = omega arith; few = omega arith }
@@ -87,6 +90,9 @@ module _ (g h : Sides) (n m r : ℕ) (e : List Float) (z : Sums g h n m e) (l : 
 
   pub coarse-fits : Fits w64 (h .nx * r)
   coarse-fits = record { fits = omega (arith, coarse-in, z .coarse, cells-most h (z .below)) }
+
+  pub coarse-start-fits : Fits w64 (3 * n + m + h .nx * r)
+  coarse-start-fits = record { fits = omega (arith, coarse-in, z .coarse, cells-most h (z .below), z .fine, cells-most g (z .fits)) }
 
   pub coarse-at : 3 * n + m + h .nx * r + h .nx ≤ length e
   coarse-at = omega (arith, coarse-in, z .room)
@@ -145,6 +151,9 @@ module _ (g h : Sides) (n m r : ℕ) (e : List Float) (z : Sums g h n m e) (l : 
   pub fine-fits : Fits w64 (g .nx * r)
   fine-fits = record { fits = omega (arith, fine-in, z .fine, cells-most g (z .fits)) }
 
+  pub fine-start-fits : Fits w64 (2 * n + g .nx * r)
+  fine-start-fits = record { fits = omega (arith, fine-in, z .fine, cells-most g (z .fits)) }
+
   pub fine-at : 2 * n + g .nx * r + g .nx ≤ length e
   fine-at = omega (arith, fine-in, z .room)
 
@@ -192,4 +201,4 @@ given-all g h n m r e s z a b c =
 pub given-none : (g h : Sides) (n m : ℕ) (e : List Float) → Sums g h n m e → Stretch (givenSum g (take (cells h) (drop (3 * n) e))) (2 * n) (g .nx * 0) e e
 given-none g h n m e z = rw (mul-zero (g .nx)) (stretch-none _ (2 * n) e (omega (arith, z .room)))
 
-pub ruleset sums = (ups, plane-fits, sums-kept, coarse-fits, coarse-at, coarse-spread, drawn-row, drawn-more, drawn-all, drawn-none, fine-fits, fine-at, fine-spread, given-row, given-more, given-all, given-none)
+pub ruleset sums = (ups, plane-fits, row-fits, sums-kept, coarse-fits, coarse-start-fits, coarse-at, coarse-spread, drawn-row, drawn-more, drawn-all, drawn-none, fine-fits, fine-start-fits, fine-at, fine-spread, given-row, given-more, given-all, given-none)

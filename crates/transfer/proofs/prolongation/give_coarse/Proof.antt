@@ -1,6 +1,7 @@
 -- `transfer::prolongation::give_coarse` meets its contract: the row is in the box where its first cell is. Assumes nothing.
 use borrow.Author.Needs.{needs}
-use Rattle.transfer.proofs.Sources.{spreads}
+use Rattle.transfer.specs.Rows.{two}
+use Rattle.transfer.proofs.Sources.{source-as, spreads}
 use Rattle.transfer.proofs.prolongation.give_coarse.Statement.{statement}
 use Rattle.transfer.proofs.prolongation.give_coarse.Tie as tie
 
@@ -44,7 +45,16 @@ same-length : tie.Need-same-length
 same-length c = search needs
 
 returns : tie.Need-returns
-returns c = search spreads
+returns c =
+    let at-row = c .before .before in
+    let at-v = at-row .before .before .before in
+    let at-w = at-v .before in
+    let at-k = at-w .before in
+    let at-j = at-k .before in
+    let there = at-j .before in
+    let at-place = there .before in
+    let start = at-place .before .before in
+    source-as _ _ _ _ _ _ _ _ _ _ _ (at-place .place .ensures) (start .pre .0) two _ _ _ _ _ _ _ (at-j .drawn-as .ensures .0) (at-k .drawn-as2 .ensures .0) (there .if1 .taken) (at-w .weight .ensures) (at-v .weight2 .ensures) (at-row .give-row .ensures)
 
 returns-2 : tie.Need-returns-2
 returns-2 c = search spreads

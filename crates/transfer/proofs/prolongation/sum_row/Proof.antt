@@ -1,5 +1,5 @@
 -- `transfer::prolongation::sum_row` meets its contract: zeros, then the four coarse rows. Assumes nothing.
-use Rattle.transfer.proofs.Sums.{sums}
+use Rattle.transfer.proofs.Sums.{given-row, sums}
 use Rattle.transfer.proofs.prolongation.sum_row.Statement.{statement}
 use Rattle.transfer.proofs.prolongation.sum_row.Tie as tie
 
@@ -37,7 +37,11 @@ same-length : tie.Need-same-length
 same-length c = search sums
 
 returns : tie.Need-returns
-returns c = search sums
+returns c =
+    let at-rows = c .before .before in
+    let at-clear = at-rows .before .before .before .before in
+    let start = at-clear .before .before .before .before .before in
+    given-row _ _ _ _ _ _ (start .pre .0) (start .pre .1) _ _ (at-clear .clear-row .ensures) (at-rows .give-all .ensures)
 
 pub sum-row-spec : {M : Type 1} → statement M
 sum-row-spec = tie.close (tie.spec cast-nx cast-ny rem-y div-z mul-o mul-o-2 add-o clear-row-requires mul-give-all give-all-requires same-length returns)

@@ -1,5 +1,5 @@
 -- `transfer::restriction::sum_row` meets its contract: zeros, then the sixteen fine rows. Assumes nothing.
-use Rattle.transfer.proofs.Sums.{sums}
+use Rattle.transfer.proofs.Sums.{drawn-row, sums}
 use Rattle.transfer.proofs.restriction.sum_row.Statement.{statement}
 use Rattle.transfer.proofs.restriction.sum_row.Tie as tie
 
@@ -40,7 +40,11 @@ same-length : tie.Need-same-length
 same-length c = search sums
 
 returns : tie.Need-returns
-returns c = search sums
+returns c =
+    let at-rows = c .before .before in
+    let at-clear = at-rows .before .before .before .before in
+    let start = at-clear .before .before .before .before .before in
+    drawn-row _ _ _ _ _ _ (start .pre .0) (start .pre .1) _ _ (at-clear .clear-row .ensures) (at-rows .draw-all .ensures)
 
 pub sum-row-spec : {M : Type 1} → statement M
 sum-row-spec = tie.close (tie.spec cast-mx cast-my rem-y div-z mul-o add-o mul-o-2 add-o-2 clear-row-requires mul-draw-all draw-all-requires same-length returns)
