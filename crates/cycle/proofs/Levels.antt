@@ -279,13 +279,13 @@ module _ (g h : Sides) (ls : List ℕ) (m : ℕ) (f : List Float → List Float)
       let mid = take (cells g) (drop (cells g) (take (3 * cells g) d ++ c)) in
       let sums = summed g ls (f (restricted g ls (residue g ls (b-of (cells g) e) (u-of (cells g) e)))) in
       let laid-here : Laid (cells g) (corrected g ls (u-of (cells g) e) (f (restricted g ls (residue g ls (b-of (cells g) e) (u-of (cells g) e)))))
-          (take (cells g) (drop (cells g) (take (3 * cells g) d ++ c))) (summed g ls (f (restricted g ls (residue g ls (b-of (cells g) e) (u-of (cells g) e)))))
-          (drop (3 * cells g) (take (3 * cells g) d ++ c)) x = record {
-            is = q ∙ ap₂ (λ u w. corrected g ls u w ++ (take (cells g) (drop (cells g) (take (3 * cells g) d ++ c)) ++ (summed g ls w ++ drop (3 * cells g) (take (3 * cells g) d ++ c)))) old new;
-            u-length = corrected-length g ls _ _;
-            b-length = length-take-le n (drop n y) (omega (arith, length-drop n y, length-append top c, top-long));
-            t-length = summed-length g ls _;
-          } in
+      (take (cells g) (drop (cells g) (take (3 * cells g) d ++ c))) (summed g ls (f (restricted g ls (residue g ls (b-of (cells g) e) (u-of (cells g) e)))))
+      (drop (3 * cells g) (take (3 * cells g) d ++ c)) x = record {
+        is = q ∙ ap₂ (λ u w. corrected g ls u w ++ (take (cells g) (drop (cells g) (take (3 * cells g) d ++ c)) ++ (summed g ls w ++ drop (3 * cells g) (take (3 * cells g) d ++ c)))) old new;
+        u-length = corrected-length g ls _ _;
+        b-length = length-take-le n (drop n y) (omega (arith, length-drop n y, length-append top c, top-long));
+        t-length = summed-length g ls _;
+      } in
       let rest : drop (3 * cells g) x ≡ drop (3 * cells g) (take (3 * cells g) d ++ c) = laid-follows laid-here in
       record {
         u = laid-u laid-here;
@@ -354,10 +354,10 @@ module _ {l : Levels} {s : Lists} {count k : ℕ} {bytes words : List ℕ} {r : 
         let inside : 3 * length ls ≤ length d = lent-long d q in
         let a : 3 * length ls ≡ 3 * cells g = omega (arith, two-levels .all) in
         let here : drop (3 * cells g) (putMid (3 * length ls) (length d - 3 * length ls) d c) ≡ c =
-            ap (drop (3 * cells g)) (home-is (3 * length ls) d c inside) ∙ drop-at (take (3 * length ls) d) c (3 * cells g) (length-take-le (3 * length ls) d inside ∙ a) in
+        ap (drop (3 * cells g)) (home-is (3 * length ls) d c inside) ∙ drop-at (take (3 * length ls) d) c (3 * cells g) (length-take-le (3 * length ls) d inside ∙ a) in
         let u : take (cells h) (drop (3 * cells g) (putMid (3 * length ls) (length d - 3 * length ls) d c))
-            ≡ cycleFrom l bytes count (k + 1) (b-of (cellsOf l (k + 1)) (midOf (3 * length ls) (length d - 3 * length ls) d)) =
-            ap (take (cells h)) here ∙ ap (λ n. take n c) (ap cells h-is) ∙ p .u in
+        ≡ cycleFrom l bytes count (k + 1) (b-of (cellsOf l (k + 1)) (midOf (3 * length ls) (length d - 3 * length ls) d)) =
+        ap (take (cells h)) here ∙ ap (λ n. take n c) (ap cells h-is) ∙ p .u in
         rw u (rw (h-is, lc-is) (quiet-cycle (k + 1) (count - 1 - (k + 1)) (sidesOf l (k + 1)) (labelsOf l bytes (k + 1)) _))
 
     pub corrected-is : (e d c x : List Float) → length e ≡ r → Lowered g h ls e d

@@ -101,13 +101,13 @@ module _ (g h : Sides) (ls lc : List ℕ) (z : TwoLevels g h ls lc) where
       let fits : 3 * length ls + length lc + length lc ≤ length e = omega (arith, z .all, below-length) in
       let fine : take (cells g) (drop (2 * length ls) e) ≡ take (cells g) (drop (2 * cells g) e) = ap (λ n. take (cells g) (drop (2 * n) e)) (z .all) in
       let divided : Stretch (λ c. overAt (getD lc c 0) (value s (3 * length ls + length lc + c))) (3 * length ls + length lc) (length lc) s t =
-          stretch-filled (λ c t. overAt (getD lc c 0) (value t (o + c))) o m s t (omega (arith, stretch-long fits p)) (λ c t l front end. ap (overAt (getD lc c 0)) (value-left (o + c) (o + c) s t (omega arith) end)) q in
+      stretch-filled (λ c t. overAt (getD lc c 0) (value t (o + c))) o m s t (omega (arith, stretch-long fits p)) (λ c t l front end. ap (overAt (getD lc c 0)) (value-left (o + c) (o + c) s t (omega arith) end)) q in
       let whole : Stretch (λ c. cond (isAir (coarse g ls) c) (weighted ls (take (cells g) (drop (2 * cells g) e)) (drawnBy g c) ⊘ ofℕ restrictionOver) +0)
-          (3 * length ls + length lc) (length lc) e t =
-          stretch-same fits (stretch-again fits p divided)
-          (λ c l. ap₂ (λ b x. cond b (x ⊘ ofℕ restrictionOver) +0) (air-is lc c l ∙ ap (λ k. isAir k c) (z .labels))
-          (stretch-cell fits p c l ∙ ap (λ v. drawnSum g v c) fine
-          ∙ drawn-sum ls u g c (z .all) still (omega (arith, below-length, ap cells (z .next))))) in
+      (3 * length ls + length lc) (length lc) e t =
+      stretch-same fits (stretch-again fits p divided)
+      (λ c l. ap₂ (λ b x. cond b (x ⊘ ofℕ restrictionOver) +0) (air-is lc c l ∙ ap (λ k. isAir k c) (z .labels))
+      (stretch-cell fits p c l ∙ ap (λ v. drawnSum g v c) fine
+      ∙ drawn-sum ls u g c (z .all) still (omega (arith, below-length, ap cells (z .next))))) in
       let end : 3 * length ls + length lc + length lc ≡ 3 * cells g + 2 * cells h = omega (arith, z .all, below-length) in
       let start : 3 * length ls + length lc ≡ 3 * cells g + cells h = omega (arith, z .all, below-length) in
       let long : length lc ≡ cells (halved g) = below-length ∙ ap cells (z .next) in
@@ -136,25 +136,25 @@ module _ (g h : Sides) (ls lc : List ℕ) (z : TwoLevels g h ls lc) where
       let fits : 2 * length ls + length ls ≤ length e = omega (arith, z .all) in
       let far : take (cells h) (drop (3 * length ls) e) ≡ take (cells h) (drop (3 * cells g) e) = ap (λ n. take (cells h) (drop (3 * n) e)) (z .all) in
       let sum : (c : ℕ) → c < length ls → givenSum g (take (cells h) (drop (3 * length ls) e)) c ≡ weighted lc (take (cells h) (drop (3 * cells g) e)) (givenTo g c) =
-          λ c l. ap (λ v. givenSum g v c) far ∙ given-sum lc w g h c (z .next) below-length still (omega (arith, z .all)) in
+      λ c l. ap (λ v. givenSum g v c) far ∙ given-sum lc w g h c (z .next) below-length still (omega (arith, z .all)) in
       let f : ℕ → List Float → Float = λ c t. plusAt (getD ls c 0) (value t (0 + c)) (value t (2 * length ls + c)) in
       let added : Stretch (λ c. plusAt (getD ls c 0) (value s (0 + c)) (value s (2 * length ls + c))) 0 (length ls) s t =
-          stretch-filled f 0 n s t (omega (arith, stretch-long fits p))
-          (λ c t l front end. ap₂ (plusAt (getD ls c 0)) (value-left (0 + c) (0 + c) s t (omega arith) end) (value-left (0 + c) (2 * n + c) s t (omega arith) end))
-          (q ∙ up-same (plusStep ls) (λ c t. set t (0 + c) (f c t)) s n (λ c t l. ap (λ k. set t k (plusAt (getD ls c 0) (value t k) (value t (2 * n + c)))) (sym (zero-add c)))) in
+      stretch-filled f 0 n s t (omega (arith, stretch-long fits p))
+      (λ c t l front end. ap₂ (plusAt (getD ls c 0)) (value-left (0 + c) (0 + c) s t (omega arith) end) (value-left (0 + c) (2 * n + c) s t (omega arith) end))
+      (q ∙ up-same (plusStep ls) (λ c t. set t (0 + c) (f c t)) s n (λ c t l. ap (λ k. set t k (plusAt (getD ls c 0) (value t k) (value t (2 * n + c)))) (sym (zero-add c)))) in
       let cell : (c : ℕ) → c < length ls → plusAt (getD ls c 0) (value s (0 + c)) (value s (2 * length ls + c))
-          ≡ cond (isAir ls c) (value (take (cells g) e) c ⊕ value (prolongated g ls (take (cells h) (drop (3 * cells g) e))) c) +0 =
-          λ c l.
-          ap₂ (λ b x. cond b (value s (0 + c) ⊕ x ⊘ ofℕ prolongationOver) +0) (air-is ls c l) (stretch-cell fits p c l ∙ sum c l)
-          ∙ ap (λ x. cond (isAir ls c) (x ⊕ weighted lc w (givenTo g c) ⊘ ofℕ prolongationOver) +0)
-          (ap (value s) (zero-add c) ∙ value-front (2 * n) c e s (omega arith) (stretch-front fits p) ∙ sym (getD-take (cells g) e c nan (omega (arith, z .all))))
-          ∙ corrected-cell w c (value (take (cells g) e) c) (omega (arith, z .all)) in
+      ≡ cond (isAir ls c) (value (take (cells g) e) c ⊕ value (prolongated g ls (take (cells h) (drop (3 * cells g) e))) c) +0 =
+      λ c l.
+      ap₂ (λ b x. cond b (value s (0 + c) ⊕ x ⊘ ofℕ prolongationOver) +0) (air-is ls c l) (stretch-cell fits p c l ∙ sum c l)
+      ∙ ap (λ x. cond (isAir ls c) (x ⊕ weighted lc w (givenTo g c) ⊘ ofℕ prolongationOver) +0)
+      (ap (value s) (zero-add c) ∙ value-front (2 * n) c e s (omega arith) (stretch-front fits p) ∙ sym (getD-take (cells g) e c nan (omega (arith, z .all))))
+      ∙ corrected-cell w c (value (take (cells g) e) c) (omega (arith, z .all)) in
       let rest : drop (0 + length ls) s ≡ take (cells g) (drop (cells g) e) ++ (tab (cells g) (λ c. weighted (coarse g ls) (take (cells h) (drop (3 * cells g) e)) (givenTo g c)) ++ drop (3 * cells g) e) =
-          ap (λ k. drop k s) (zero-add n)
-          ∙ ap (drop n) (p .is ∙ append-assoc (take (2 * n) e) (tab n (givenSum g (take (cells h) (drop (3 * n) e)))) (drop (2 * n + n) e))
-          ∙ drop-append-le n (take (2 * n) e) _ (omega (arith, length-take-le (2 * n) e (omega (arith, z .all))))
-          ∙ ap₂ _++_ (back-of n e (omega (arith, z .all)) ∙ ap (λ k. take k (drop k e)) (z .all))
-          (ap₂ _++_ (tab-same n _ _ (λ c l. sum c l ∙ ap (λ k. weighted k w (givenTo g c)) (z .labels)) ∙ ap (λ k. tab k (λ c. weighted (coarse g ls) w (givenTo g c))) (z .all)) (ap (λ k. drop k e) three)) in
+      ap (λ k. drop k s) (zero-add n)
+      ∙ ap (drop n) (p .is ∙ append-assoc (take (2 * n) e) (tab n (givenSum g (take (cells h) (drop (3 * n) e)))) (drop (2 * n + n) e))
+      ∙ drop-append-le n (take (2 * n) e) _ (omega (arith, length-take-le (2 * n) e (omega (arith, z .all))))
+      ∙ ap₂ _++_ (back-of n e (omega (arith, z .all)) ∙ ap (λ k. take k (drop k e)) (z .all))
+      (ap₂ _++_ (tab-same n _ _ (λ c l. sum c l ∙ ap (λ k. weighted k w (givenTo g c)) (z .labels)) ∙ ap (λ k. tab k (λ c. weighted (coarse g ls) w (givenTo g c))) (z .all)) (ap (λ k. drop k e) three)) in
       added .is
       ∙ ap₂ _++_ (tab-same n _ _ cell ∙ ap (λ k. tab k (λ c. cond (isAir ls c) (value (take (cells g) e) c ⊕ value (prolongated g ls w) c) +0)) (z .all)) rest
     where

@@ -116,9 +116,9 @@ module _ (g h : Sides) (n m r : ℕ) (e : List Float) (z : Sums g h n m e) (l : 
       let y = r % h .ny in
       let k = r / h .ny in
       let v : Stretch (λ i. drawnAt g (take (cells g) (drop (2 * n) e)) i (r % h .ny) (r / h .ny)) (3 * n + m + h .nx * r) (h .nx) e
-          (up (fineStep g (2 * n) (3 * n + m + h .nx * r) (h .nx) (r % h .ny) (r / h .ny)) 16 s) =
-          all-rows four fourOf (λ u g b c row w. four-of w) four-none g (z .fits .nx-one) (2 * n) o (h .nx) (inl (omega (arith, z .fine))) e (omega (arith, z .fine, z .room)) coarse-at
-          (λ r. 2 * y + r % 4) (λ r. 2 * k + r / 4) (λ r. r % 4) (λ r. r / 4) s c 16 in
+      (up (fineStep g (2 * n) (3 * n + m + h .nx * r) (h .nx) (r % h .ny) (r / h .ny)) 16 s) =
+      all-rows four fourOf (λ u g b c row w. four-of w) four-none g (z .fits .nx-one) (2 * n) o (h .nx) (inl (omega (arith, z .fine))) e (omega (arith, z .fine, z .room)) coarse-at
+      (λ r. 2 * y + r % 4) (λ r. 2 * k + r / 4) (λ r. r % 4) (λ r. r / 4) s c 16 in
       rw q (stretch-same coarse-at v (λ i p. drawn-spot g h (take (cells g) (drop (2 * n) e)) (h .nx * r + i) i y k (z .next) (spot h (z .below) m r (z .coarse) l i p)))
 
   pub drawn-more : (s t : List Float) → Stretch (drawnSum g (take (cells g) (drop (2 * n) e))) (3 * n + m) (h .nx * r) e s
@@ -176,9 +176,9 @@ module _ (g h : Sides) (n m r : ℕ) (e : List Float) (z : Sums g h n m e) (l : 
       let y = r % g .ny in
       let k = r / g .ny in
       let v : Stretch (λ i. givenAt h (take (cells h) (drop (3 * n) e)) i (r % g .ny) (r / g .ny)) (2 * n + g .nx * r) (g .nx) e
-          (up (coarseStep h (3 * n) (2 * n + g .nx * r) (g .nx) (r % g .ny) (r / g .ny)) 4 s) =
-          all-rows two twoOf (λ u g b c row w. two-of w) two-none h (z .below .nx-one) (3 * n) o (g .nx) (inr (omega (arith, fine-in))) e (omega (arith, z .coarse, z .room)) fine-at
-          (λ r. (y + 1) / 2 + r % 2) (λ r. (k + 1) / 2 + r / 2) (λ r. 3 - y % 2 - 2 * (r % 2)) (λ r. 3 - k % 2 - 2 * (r / 2)) s c 4 in
+      (up (coarseStep h (3 * n) (2 * n + g .nx * r) (g .nx) (r % g .ny) (r / g .ny)) 4 s) =
+      all-rows two twoOf (λ u g b c row w. two-of w) two-none h (z .below .nx-one) (3 * n) o (g .nx) (inr (omega (arith, fine-in))) e (omega (arith, z .coarse, z .room)) fine-at
+      (λ r. (y + 1) / 2 + r % 2) (λ r. (k + 1) / 2 + r / 2) (λ r. 3 - y % 2 - 2 * (r % 2)) (λ r. 3 - k % 2 - 2 * (r / 2)) s c 4 in
       rw q (stretch-same fine-at v (λ i p. given-spot g h (take (cells h) (drop (3 * n) e)) (g .nx * r + i) i y k (z .next) (spot g (z .fits) n r (z .fine) l i p)))
 
   pub given-more : (s t : List Float) → Stretch (givenSum g (take (cells h) (drop (3 * n) e))) (2 * n) (g .nx * r) e s
