@@ -27,8 +27,8 @@ use Rattle.method.specs.Levels.{value, halved, coarse, inBand, restricted}
 use Rattle.method.specs.Cycle.{times, sweeps, ascending, descending, jacobi, residue, zeros, coarsest, downstroke}
 use Rattle.theory.proofs.Sides.{Fit}
 use Rattle.theory.specs.Quiet.{Quiet}
-use Rattle.theory.proofs.Quiet.{quiet-descending, quiet-times}
 use Rattle.theory.proofs.Children.{band-air}
+use Rattle.theory.proofs.Quiet.{quiet-residue, quiet-descending, quiet-times}
 use Rattle.grid.specs.Entries.{cellsOf}
 use Rattle.smooth.specs.Fields.{u-of, b-of, t-of, Level, Laid}
 use Rattle.smooth.specs.Sweeps.{sweptUp, sweptDown}
@@ -167,7 +167,7 @@ pub ruleset doubling = (needs, doubled-none, doubled-more, doubled-fits, doubled
 
 -- ---- what a level leaves of its room
 module _ {n : ℕ} {u b t r e : List Float} where
-  laid-long : Laid n u b t r e → length e ≡ 3 * n + length r
+  pub laid-long : Laid n u b t r e → length e ≡ 3 * n + length r
   laid-long p =
       let q : length e ≡ length (u ++ (b ++ (t ++ r))) = ap length (p .is) in
       omega (arith, p .u-length, p .b-length, p .t-length, length-append u (b ++ (t ++ r)), length-append b (t ++ r), length-append t r)
@@ -332,6 +332,11 @@ module _ (g h : Sides) (ls lc : List ℕ) (e d x : List Float) (z : TwoLevels g 
   pub lower-asks : Level g ls e
   lower-asks = record { sides = z .fits; labelled = z .all; roomy = omega arith }
 
+  -- the residual is made in air only
+  pub lower-quiet : d ≡ u-of (cells g) e ++ (b-of (cells g) e ++ (residue g ls (b-of (cells g) e) (u-of (cells g) e) ++ drop (3 * cells g) e))
+      → Quiet g ls (take (cells g) (drop (2 * cells g) d))
+  lower-quiet p = rw (laid-t (after-residual g (laid (cells g) e (omega arith)) ls p)) (quiet-residue (b-of (cells g) e) (u-of (cells g) e))
+
   pub lowered-is : length d ≡ length e → length x ≡ length d
       → d ≡ u-of (cells g) e ++ (b-of (cells g) e ++ (residue g ls (b-of (cells g) e) (u-of (cells g) e) ++ drop (3 * cells g) e))
       → x ≡ restrictedRoom g h ls d → Lowered g h ls e x
@@ -359,4 +364,4 @@ module _ (g h : Sides) (ls lc : List ℕ) (e d x : List Float) (z : TwoLevels g 
         long = k′ ∙ k;
       }
 
-pub ruleset lowering = (needs, lower-asks, lowered-is)
+pub ruleset lowering = (needs, lower-asks, lower-quiet, lowered-is)

@@ -3,7 +3,7 @@
 use mathlib.Core.Path.{refl, _∙_}
 use native.Mathlib.Omega.{arith}
 use borrow.Author.Needs.{needs}
-use Rattle.cycle.proofs.Levels.{cycles, labels-few, level-asked, air-listed, band-listed, cleared, cleared-end, stroke-end, corrected-end, level-end, same-ready, all-air, corrected-quiet, two-levels, two-rooms, lent-ready, lent-end, home-room, corrected-is, cycle-more}
+use Rattle.cycle.proofs.Levels.{cycles, labels-few, level-asked, air-listed, band-listed, cleared, cleared-end, stroke-end, corrected-end, level-end, same-ready, all-air, corrected-quiet, two-levels, two-rooms, lent-ready, lent-end, home-room, home-quiet, corrected-is, cycle-more}
 use Prim.Native.Nat.{ℕ, _+_, _-_, _<_}
 use borrow.Fn.Kinds.{In}
 use borrow.Fn.PlainCycle.{Measures, is, falls, and}
@@ -177,7 +177,7 @@ coarse-correction-correct-requires t c κs =
     let h = at-lower .before .before .before .before .before .sides-at2 in
     let ls = at-lower .before .before .before .before .level-labels in
     let lc = at-lower .before .before .before .level-labels2 in
-    (two-levels (start .pre .1 .0) (start .pre .1 .1 .1) (g .ensures) (h .ensures) (ls .ensures) (lc .ensures), home-room (start .pre .1 .0) (start .pre .1 .1 .1) (g .ensures) (h .ensures) (ls .ensures) (lc .ensures) (at-lower .lower .last .0) (c .before .before .before .cycle .last .0) (at-lower .lower .kept .0) (c .before .before .before .cycle .kept .0))
+    (two-levels (start .pre .1 .0) (start .pre .1 .1 .1) (g .ensures) (h .ensures) (ls .ensures) (lc .ensures), (home-room (start .pre .1 .0) (start .pre .1 .1 .1) (g .ensures) (h .ensures) (ls .ensures) (lc .ensures) (at-lower .lower .last .0) (c .before .before .before .cycle .last .0) (at-lower .lower .kept .0) (c .before .before .before .cycle .kept .0), home-quiet (start .pre .1 .0) (start .pre .1 .1 .1) (g .ensures) (h .ensures) (ls .ensures) (lc .ensures) _ _ (at-lower .lower .kept .0) (c .before .before .before .cycle .ensures)))
 
 coarse-correction-same-length : (t : ℕ) → coarse-correction-lts.Need-same-length (cc-calls t) (coarse-correction-at t) coarse-correction.Post
 coarse-correction-same-length t c = search cycles
