@@ -31,10 +31,11 @@ use Rattle.levels.specs.AllLists.{baseLabels, listAt, airAt, listsBefore, first
 use Rattle.levels.proofs.Calls.{part-left, lists-asked}
 use Rattle.levels.proofs.Labelled.{room-enough}
 use Rattle.smooth.specs.Fields.{u-of, b-of}
-use Rattle.cycle.specs.Strokes.{Ended, Put}
+use Rattle.cycle.specs.Strokes.{AirList, Ended, Put}
+use Rattle.cycle.proofs.Air.{air-entries}
 use Rattle.cycle.proofs.Laws.{end-kept}
 use Rattle.cycle.proofs.Levels.{fields-all}
-use Rattle.cycle.specs.Rooms.{listFrom, airFrom, Prepared, fieldsFrom, Ready, cellsOf, Cycled}
+use Rattle.cycle.specs.Rooms.{listFrom, airFrom, AirAt, Prepared, fieldsFrom, Ready, cellsOf, Cycled}
 
 -- ---- each level's list, in the room that `all_lists` leaves
 module _ (g : Sides) (ls : List ℕ) (count : ℕ) where
@@ -145,6 +146,15 @@ prepared-from l count ls old bytes e words s a b k room long p = prepared l coun
 pub ready-first : (l : Levels) (s : Lists) (count : ℕ) (bytes words : List ℕ) (r : ℕ) → Prepared l s count bytes words → fieldsFrom (base l) count 0 ≤ r
     → Ready l s count 0 bytes words r
 ready-first l s count bytes words r p h = record { prepared = p; below = omega (arith, p .least); roomy = h }
+
+-- and the list of all its air
+pub first-air-asked : (l : Levels) (s : Lists) (count : ℕ) (bytes words : List ℕ) → Prepared l s count bytes words → AirAt s 0 (length words)
+first-air-asked l s count bytes words p = record { below = omega arith; inside = p .ends 0 (omega (arith, p .least)) }
+
+pub first-air : (l : Levels) (s : Lists) (count : ℕ) (bytes words : List ℕ) → Prepared l s count bytes words → length (baseLabels l bytes) ≡ cells (base l)
+    → {es : List ℕ} → es ≡ airFrom s 0 words → AirList (base l) (baseLabels l bytes) es
+unfolding airAt sidesAt labelsAt
+first-air l s count bytes words p len q = air-entries (base l) (baseLabels l bytes) (ltb (0 + 1) count) (p .fit) len (q ∙ p .air 0 (omega (arith, p .least)))
 
 -- how much room six levels' fields take
 pub fields-most : (g : Sides) (count : ℕ) → Fit g → count ≤ 6 → fieldsFrom g count 0 ≤ 6 * cells g + 15

@@ -86,3 +86,7 @@ pub record LabelsAt (l : Levels) (k n : ℕ) : Type 0 where
 pub record ListAt (s : Lists) (k n : ℕ) : Type 0 where
   pub below : k < 6
   pub inside : getD (s .start) k 0 + getD (s .count) k 0 ≤ n
+
+pub record AirAt (s : Lists) (k n : ℕ) : Type 0 where
+  pub below : k < 6
+  pub inside : getD (s .start) k 0 + getD (s .air) k 0 ≤ n

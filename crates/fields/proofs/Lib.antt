@@ -1,3 +1,5 @@
 -- Laws, each once.
 pub mod Turns
 pub mod Made
+pub mod Calm
+pub mod Aims

@@ -13,6 +13,8 @@ ghost use Rattle.theory.proofs.Sides.{Fit};
 ghost use Rattle.fields.specs.Fields.{x-of, p-of, z-of, r-of, t-of, Held};
 ghost use Rattle.fields.specs.Turns.{Within, dotTurn, applyTurn, aimTurn, advanceTurn, reduceTurn, loadTurn};
 
+pub mod entries;
+
 // The sum with cell c's product, where c is air.
 fn dot_at(a: &[f64], b: &[f64], labels: &[u8], c: usize, sum: f64) -> f64
     requires { ⌜ (c < length (now labels)) × ((c < length (now a)) × (c < length (now b))) ⌝ }
@@ -67,7 +69,7 @@ pub fn apply(room: &mut [f64], labels: &[u8], g: method::Sides)
 }
 
 // The direction at one cell: z in the first round, later z + beta·p.
-fn direction_of(done: u32, beta: f64, z: f64, p: f64) -> f64
+pub(crate) fn direction_of(done: u32, beta: f64, z: f64, p: f64) -> f64
     ensures { λ r. ⌜ r ≡ direction done beta z p ⌝ }
 {
     if done == 0 { z } else { z + beta * p }

@@ -119,11 +119,9 @@ module _ (g : Sides) (ls : List ℕ) (n nx plane e : ℕ) (h : Entry g ls n nx p
   on-at a = on-air ls (cells g) a (e % 32768) (h .labelled)
 
   -- THE LAW: what every cast's entry lets a kernel read
-  pub reads : (z len : ℕ) → 3 * n ≤ z → z < len → Reads n nx plane z len e
-  reads z len f l = record {
+  pub reads : Reads n nx plane e
+  reads = record {
     here = omega (arith, h .here, h .n-is);
-    fields = f;
-    zero-in = l;
     step-x = λ b. back-at (x-axis g) (one-true (w-air g ls (e % 32768)) (sym west ∙ b)) .1;
     step-y = λ b. omega (arith, h .nx-is, back-at (y-axis g) (one-true (s-air g ls (e % 32768)) (sym south ∙ b)) .1);
     step-z = λ b. omega (arith, h .plane-is, back-at (z-axis g) (one-true (b-air g ls (e % 32768)) (sym below ∙ b)) .1);
@@ -173,21 +171,21 @@ pub zero-kept : (s : List Float) (c z : ℕ) (x : Float) → c < z → value s z
 zero-kept s c z x l h = getD-set-other s c z x nan (λ e. omega arith) ∙ h
 
 -- ---- sweeps
-pub reads-at : {n nx plane z len m : ℕ} {es : List ℕ} (k : ℕ) → AllRead n nx plane z len es → m ≡ len → k < length es → Reads n nx plane z m (getD es k 0)
-reads-at k a e h = rw e (a .at k h)
+pub reads-at : {n nx plane z len : ℕ} {es : List ℕ} (k : ℕ) → AllRead n nx plane z len es → k < length es → Reads n nx plane (getD es k 0)
+reads-at k a h = a .at k h
 
-pub reads-back : {n nx plane z len m : ℕ} {es : List ℕ} (k : ℕ) → AllRead n nx plane z len es → m ≡ len → 0 < k → k ≤ length es → Reads n nx plane z m (getD es (k - 1) 0)
-reads-back k a e p h = rw e (a .at (k - 1) (omega arith))
+pub reads-back : {n nx plane z len : ℕ} {es : List ℕ} (k : ℕ) → AllRead n nx plane z len es → 0 < k → k ≤ length es → Reads n nx plane (getD es (k - 1) 0)
+reads-back k a p h = a .at (k - 1) (omega arith)
 
 -- what a turn does, for every cast of which the word is an entry
 abbrev pub Turned : ℕ → ℕ → ℕ → ℕ → List Float → List Float → Type 0
 Turned n nx plane e s t = (g : Sides) (ls : List ℕ) → Entry g ls n nx plane e → t ≡ relaxTurn g ls (e % 32768) s
 
-cell-at : (es : List ℕ) (k : ℕ) → getD es k 0 % 32768 ≡ getD (cellsOf es) k 0
+pub cell-at : (es : List ℕ) (k : ℕ) → getD es k 0 % 32768 ≡ getD (cellsOf es) k 0
 unfolding cellsOf
 cell-at es k = sym (List·getD-map cellOf es k 0)
 
-count-is : (es : List ℕ) → length (cellsOf es) ≡ length es
+pub count-is : (es : List ℕ) → length (cellsOf es) ≡ length es
 unfolding cellsOf
 count-is es = length-map es cellOf
 
@@ -263,7 +261,7 @@ module _ (g : Sides) (ls : List ℕ) (z : Fit g) where
     entries-are = record { n-is = en; at = λ k h. one-entry k (omega (arith, length-map cs (entryOf g ls))) }
 
 pub all-read : (g : Sides) (ls : List ℕ) (n nx plane z len : ℕ) (es : List ℕ) → Entries g ls n nx plane es → 3 * n ≤ z → z < len → AllRead n nx plane z len es
-all-read g ls n nx plane z len es e f l = record { fields = f; zero-in = l; at = λ k h. reads g ls n nx plane (getD es k 0) (e .at k h) z len f l }
+all-read g ls n nx plane z len es e f l = record { fields = f; zero-in = l; at = λ k h. reads g ls n nx plane (getD es k 0) (e .at k h) }
 
 pub level-reads : {g : Sides} {ls es : List ℕ} {r : List Float} → EntryLevel g ls es r → AllRead (length ls) (g .nx) (g .nx * g .ny) (length r - 1) (length r) es
 level-reads {g} {ls} {es} {r} h = all-read g ls (length ls) (g .nx) (g .nx * g .ny) (length r - 1) (length r) es (h .entries) (omega (arith, h .spare)) (omega (arith, h .spare))

@@ -15,11 +15,14 @@ use Rattle.method.specs.declared.Sides.{Sides}
 use Rattle.method.specs.Cast.{cells}
 use Rattle.method.specs.Levels.{value, inAir}
 use Rattle.method.specs.Cycle.{jacobi, residue, zeros}
-use Rattle.smooth.specs.Fields.{u-of, b-of, t-of, Laid, jacobiValue, residueValue, jacobiTurn, residueTurn, keepTurn, clearTurn}
+use Rattle.smooth.specs.Fields.{u-of, b-of, t-of, Laid, jacobiValue, residueValue, jacobiTurn, residueTurn, keepTurn, clearTurn, clearFromTurn}
 
 -- ---- u becomes zero
 pub clear-is : (n : ℕ) (s t : List Float) → n ≤ length s → t ≡ up clearTurn n s → t ≡ tab n (λ c. +0) ++ drop n s
 clear-is n s t h e = e ∙ filled-front clearTurn (λ c r. +0) n s (λ c r. refl) (λ c i x r a b. refl) h
+
+pub clear-from-is : (from n : ℕ) (s t : List Float) → from + n ≤ length s → t ≡ up (clearFromTurn from) n s → t ≡ take from s ++ (tab n (λ c. +0) ++ drop (from + n) s)
+clear-from-is from n s t h e = e ∙ filled (clearFromTurn from) (λ c r. +0) from n s (λ c r. refl) (λ c i x r a b. refl) h
 
 pub zeros-is : (g : Sides) (n : ℕ) (s t : List Float) → n ≡ cells g → t ≡ tab n (λ c. +0) ++ drop n s → t ≡ zeros g ++ drop (cells g) s
 unfolding zeros
@@ -55,7 +58,7 @@ residue-unread g ls c i x r =
     rw (in-b, take-set-le (cells g) r (2 * cells g + i) x (omega arith))
 
 -- the first two fields, by name
-fields : (n : ℕ) (s r : List Float) → take (2 * n) s ++ r ≡ u-of n s ++ (b-of n s ++ r)
+pub fields : (n : ℕ) (s r : List Float) → take (2 * n) s ++ r ≡ u-of n s ++ (b-of n s ++ r)
 fields n s r =
     let two : 2 * n ≡ n + n = omega arith in
     ap (λ m. take m s ++ r) two ∙ ap (λ l. l ++ r) (take-add n n s) ∙ append-assoc (take n s) (take n (drop n s)) r
@@ -107,7 +110,7 @@ module _ {n : ℕ} {u b t r s : List Float} (l : Laid n u b t r s) where
       ap (λ m. drop m s) three ∙ sym (drop-drop n (2 * n) s) ∙ ap (drop n) laid-tail ∙ drop-at t r n (l .t-length)
 
 -- ---- Jacobi: the old u in t, then u from it
-jacobi-from : (g : Sides) (ls : List ℕ) (n : ℕ) (u b r m : List Float) → Laid n u b u r m
+pub jacobi-from : (g : Sides) (ls : List ℕ) (n : ℕ) (u b r m : List Float) → Laid n u b u r m
     → jacobi g ls (b-of n m) (t-of n m) ++ drop n m ≡ jacobi g ls b u ++ (b ++ (u ++ r))
 jacobi-from g ls n u b r m l = rw (laid-b l, laid-t l, laid-rest l)
 
@@ -121,4 +124,4 @@ jacobi-is g ls n s m t h k a e =
     e ∙ jacobi-from g ls (cells g) (u-of (cells g) s) (b-of (cells g) s) (drop (3 * cells g) s) m
     (record { is = a′ ∙ fields (cells g) s (u-of (cells g) s ++ drop (3 * cells g) s); u-length = l .u-length; b-length = l .b-length; t-length = l .u-length })
 
-pub ruleset fills = (ups, clear-is, zeros-is, keep-is, jacobi-all-is, residual-is, jacobi-is)
+pub ruleset fills = (ups, clear-is, clear-from-is, zeros-is, keep-is, jacobi-all-is, residual-is, jacobi-is)

@@ -32,11 +32,11 @@ unfolding applied
 rest-is g ls u c k b s ek es = simp (ek, es)
 
 -- ---- a part of the room that is lent to its end
-part-is : (r : List Float) (m : ℕ) → take (length r - m) (drop m r) ≡ drop m r
+pub part-is : (r : List Float) (m : ℕ) → take (length r - m) (drop m r) ≡ drop m r
 part-is r m = take-all (length r - m) (drop m r) (omega (arith, length-drop m r))
 
 -- the literals 2.0 and 3.0
-two-thirds : div binary64 (ofBits binary64 4611686018427387904) (ofBits binary64 4613937818241073152) ≡ ofℕ 2 ⊘ ofℕ 3
+pub two-thirds : div binary64 (ofBits binary64 4611686018427387904) (ofBits binary64 4613937818241073152) ≡ ofℕ 2 ⊘ ofℕ 3
 unfolding lib.Ieee.ofBits lib.Ieee.ofInt
 two-thirds = refl
 

@@ -61,3 +61,6 @@ keepTurn n c r = set r (2 * n + c) (value r c)
 
 abbrev pub clearTurn : ℕ → List Float → List Float
 clearTurn c r = set r c +0
+
+abbrev pub clearFromTurn : ℕ → ℕ → List Float → List Float
+clearFromTurn from c r = set r (from + c) +0

@@ -1,4 +1,6 @@
 -- The definitions that the crate's contracts cite.
 pub mod Fields
 pub mod Sweeps
+pub mod Written
 pub mod Entries
+pub mod Stencils

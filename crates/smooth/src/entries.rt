@@ -1,7 +1,7 @@
 // Gauss-Seidel over entries: no label is read, and nothing is divided by a side.
 ghost use mathlib.Core.Path.{_≡_};
 ghost use mathlib.Core.List.{List, _++_};
-ghost use Prim.Native.Nat.{ℕ, _+_, _-_, _/_, _%_, _≤_, _<_};
+ghost use Prim.Native.Nat.{ℕ, _+_, _-_, _*_, _/_, _%_, _≤_, _<_};
 ghost use lib.ListN.{length, take, drop};
 ghost use Rattle.laws.specs.Binary64.{+0};
 ghost use Rattle.method.specs.declared.Sides.{Sides};
@@ -32,8 +32,9 @@ fn pick_on(e: u32, unit: u32, c: usize, step: usize, zero: usize) -> usize
 }
 
 // The sum of the air neighbours of an entry's cell: six elements, of which those that stand for no air cell are the zero.
-fn gather(room: &[f64], n: usize, nx: usize, plane: usize, zero: usize, e: u32) -> f64
-    requires { ⌜ Reads n nx plane zero (length (now room)) e ⌝ }
+pub(crate) fn gather(room: &[f64], n: usize, nx: usize, plane: usize, zero: usize, e: u32) -> f64
+    requires { ⌜ Reads n nx plane e ⌝ }
+    requires { ⌜ (n ≤ zero) × (zero < length (now room)) ⌝ }
     requires { ⌜ value (now room) zero ≡ +0 ⌝ }
     ensures { λ r. ⌜ ((g : Sides) (ls : List ℕ) → Entry g ls n nx plane e → r ≡ airSum g ls (now (room .entry)) (e % 32768)) ⌝ }
 {
@@ -49,7 +50,8 @@ fn gather(room: &[f64], n: usize, nx: usize, plane: usize, zero: usize, e: u32) 
 
 // Gauss-Seidel at an entry's cell: u becomes u + (b - A u)/d.
 fn relax_entry(room: &mut [f64], n: usize, nx: usize, plane: usize, zero: usize, e: u32)
-    requires { ⌜ Reads n nx plane zero (length (now room)) e ⌝ }
+    requires { ⌜ Reads n nx plane e ⌝ }
+    requires { ⌜ (3 * n ≤ zero) × (zero < length (now room)) ⌝ }
     requires { ⌜ value (now room) zero ≡ +0 ⌝ }
     ensures { λ _. ⌜ value (now (room .exit)) zero ≡ +0 ⌝ }
     ensures { λ _. ⌜ ((g : Sides) (ls : List ℕ) → Entry g ls n nx plane e → now (room .exit) ≡ relaxed g ls (isAir ls) (b-of (cells g) (now (room .entry))) (e % 32768) (u-of (cells g) (now (room .entry))) ++ drop (cells g) (now (room .entry))) ⌝ }

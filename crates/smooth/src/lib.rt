@@ -14,6 +14,7 @@ ghost use Rattle.theory.proofs.Sides.{Fit};
 ghost use Rattle.smooth.specs.Fields.{u-of, b-of, t-of, Level, jacobiTurn, residueTurn};
 
 pub mod entries;
+pub mod stencils;
 
 // What the cells across a cell's faces come to: how many are no wall, and the sum over those that are air.
 struct Gathered {
@@ -96,7 +97,7 @@ fn rest_at(u: &[f64], labels: &[u8], g: method::Sides, c: usize, b: f64) -> Rest
 }
 
 // The old u goes to t.
-fn keep_u(room: &mut [f64], n: usize)
+pub(crate) fn keep_u(room: &mut [f64], n: usize)
     requires { ⌜ 3 * n ≤ length (now room) ⌝ }
     ensures { λ _. ⌜ now (room .exit) ≡ take (2 * n) (now (room .entry)) ++ (take n (now (room .entry)) ++ drop (3 * n) (now (room .entry))) ⌝ }
 {
@@ -184,6 +185,18 @@ pub fn clear_front(room: &mut [f64], n: usize)
     let mut c = 0;
     while c < n {
         room[c] = 0.0;
+        c += 1;
+    }
+}
+
+// The n elements from `from` on become zero.
+pub fn clear_from(room: &mut [f64], from: usize, n: usize)
+    requires { ⌜ from + n ≤ length (now room) ⌝ }
+    ensures { λ _. ⌜ now (room .exit) ≡ take from (now (room .entry)) ++ (tab n (λ c. +0) ++ drop (from + n) (now (room .entry))) ⌝ }
+{
+    let mut c = 0;
+    while c < n {
+        room[from + c] = 0.0;
         c += 1;
     }
 }

@@ -12,13 +12,17 @@ pick-back-requires : tie.Need-pick-back-requires
 pick-back-requires c κs = search needs
 
 pick-on-requires : tie.Need-pick-on-requires
-pick-on-requires c κs = search needs
+pick-on-requires c κs =
+    let p = c .before .before .pre .0 in
+    (omega arith, λ b. omega (arith, p .on-x b))
 
 pick-back-requires-2 : tie.Need-pick-back-requires-2
 pick-back-requires-2 c κs = search needs
 
 pick-on-requires-2 : tie.Need-pick-on-requires-2
-pick-on-requires-2 c κs = search needs
+pick-on-requires-2 c κs =
+    let p = c .before .before .before .before .pre .0 in
+    (omega arith, λ b. omega (arith, p .on-y b))
 
 pick-back-requires-3 : tie.Need-pick-back-requires-3
 pick-back-requires-3 c κs =
@@ -26,7 +30,9 @@ pick-back-requires-3 c κs =
     (omega arith, (p .step-z, omega arith))
 
 pick-on-requires-3 : tie.Need-pick-on-requires-3
-pick-on-requires-3 c κs = search needs
+pick-on-requires-3 c κs =
+    let p = c .before .before .before .before .before .before .pre .0 in
+    (omega arith, λ b. omega (arith, p .on-z b))
 
 mul-result : tie.Need-mul-result
 mul-result c = search needs
@@ -70,7 +76,7 @@ returns c = λ g ls h.
     let first = last .before .before .before in
     let at = first .before .before .before .before in
     let a = at .args in
-    sum-is g ls (a .n) (a .nx) (a .plane) (a .e) h (a .room .now) (a .zero) (at .pre .1) (c .shared-slice-known7 .given)
+    sum-is g ls (a .n) (a .nx) (a .plane) (a .e) h (a .room .now) (a .zero) (at .pre .1 .1) (c .shared-slice-known7 .given)
     (first .before .before .pick-back .ensures .0)
     (first .before .pick-on .ensures .0)
     (first .pick-back2 .ensures .0)

@@ -12,7 +12,7 @@ int-to-float-d : tie.Need-int-to-float-d
 int-to-float-d c = search needs
 
 gather-requires : tie.Need-gather-requires
-gather-requires c κs = search needs
+gather-requires c κs = (search needs, (search needs, search needs))
 
 mul-x : tie.Need-mul-x
 mul-x c = search needs
@@ -43,7 +43,7 @@ returns c =
     let got = c .before .before in
     let at = got .before .before .before .before in
     let a = at .args in (
-      zero-kept (a .room .now) _ (a .zero) _ (omega arith) (at .pre .1),
+      zero-kept (a .room .now) _ (a .zero) _ (omega arith) (at .pre .1 .1),
       λ g ls h. relax-is g ls (a .n) (a .nx) (a .plane) (a .e) h (a .room .now) (got .gather .ensures g ls h),
     )
 

@@ -28,7 +28,7 @@ shared-slice-read-relax-entry : tie.Need-shared-slice-read-relax-entry Inv-loop 
 shared-slice-read-relax-entry c = search falling
 
 relax-entry-requires : tie.Need-relax-entry-requires Inv-loop μ-loop
-relax-entry-requires c κs = (search falling, search falling)
+relax-entry-requires c κs = (search falling, (search falling, search falling))
 
 loop-less : tie.Need-loop-less Inv-loop μ-loop
 loop-less c = search falling

@@ -25,7 +25,7 @@ shared-slice-read-relax-entry : tie.Need-shared-slice-read-relax-entry Inv-loop 
 shared-slice-read-relax-entry c = search rising
 
 relax-entry-requires : tie.Need-relax-entry-requires Inv-loop μ-loop
-relax-entry-requires c κs = (search rising, search rising)
+relax-entry-requires c κs = (search rising, (search rising, search rising))
 
 add-k : tie.Need-add-k Inv-loop μ-loop
 add-k c = search rising
