@@ -299,14 +299,15 @@ restricted-length : (g : Sides) (ls : List ℕ) (u : List Float) → length (res
 unfolding restricted
 restricted-length g ls u = inAir-length (halved g) (coarse g ls) _
 
+-- the residual is made in air only
+pub lower-quiet : (g : Sides) (ls : List ℕ) (e d : List Float)
+    → d ≡ u-of (cells g) e ++ (b-of (cells g) e ++ (residue g ls (b-of (cells g) e) (u-of (cells g) e) ++ drop (3 * cells g) e))
+    → 3 * cells g ≤ length e → Quiet g ls (take (cells g) (drop (2 * cells g) d))
+lower-quiet g ls e d p room = rw (laid-t (after-residual g (laid (cells g) e room) ls p)) (quiet-residue (b-of (cells g) e) (u-of (cells g) e))
+
 module _ (g h : Sides) (ls lc : List ℕ) (e d x : List Float) (z : TwoLevels g h ls lc) (room : 3 * cells g + 3 * cells h ≤ length e) where
   pub lower-asks : Level g ls e
   lower-asks = record { sides = z .fits; labelled = z .all; roomy = omega arith }
-
-  -- the residual is made in air only
-  pub lower-quiet : d ≡ u-of (cells g) e ++ (b-of (cells g) e ++ (residue g ls (b-of (cells g) e) (u-of (cells g) e) ++ drop (3 * cells g) e))
-      → Quiet g ls (take (cells g) (drop (2 * cells g) d))
-  lower-quiet p = rw (laid-t (after-residual g (laid (cells g) e (omega arith)) ls p)) (quiet-residue (b-of (cells g) e) (u-of (cells g) e))
 
   pub lowered-is : length d ≡ length e → length x ≡ length d
       → d ≡ u-of (cells g) e ++ (b-of (cells g) e ++ (residue g ls (b-of (cells g) e) (u-of (cells g) e) ++ drop (3 * cells g) e))
@@ -335,4 +336,4 @@ module _ (g h : Sides) (ls lc : List ℕ) (e d x : List Float) (z : TwoLevels g 
         long = k′ ∙ k;
       }
 
-pub ruleset lowering = (needs, lower-asks, lower-quiet, lowered-is)
+pub ruleset lowering = (needs, lower-asks, lowered-is)

@@ -1,5 +1,5 @@
 -- `cycle::lower` meets its contract, by the contracts of the two that it calls. Assumes nothing.
-use Rattle.cycle.proofs.Laws.{lowering}
+use Rattle.cycle.proofs.Laws.{lower-quiet, lowering}
 use Rattle.cycle.proofs.lower.Statement.{statement}
 use Rattle.cycle.proofs.lower.Tie as tie
 
@@ -7,7 +7,7 @@ residual-requires : tie.Need-residual-requires
 residual-requires c κs = search lowering
 
 restrict-requires : tie.Need-restrict-requires
-restrict-requires c κs = search lowering
+restrict-requires c κs = (search lowering, (search lowering, lower-quiet _ _ _ _ (c .before .before .before .residual .ensures) (search lowering)))
 
 same-length : tie.Need-same-length
 same-length c = search lowering
