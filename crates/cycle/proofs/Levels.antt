@@ -109,7 +109,7 @@ module _ {l : Levels} {s : Lists} {count k : ℕ} {bytes words : List ℕ} {r : 
   labels-asked = record { below = six; fit = rw sides-here fit-here; inside = omega (arith, start-here, ap cells sides-here, end-here) }
 
   pub list-asked : ListAt s k (length words)
-  list-asked = record { below = six; inside = z .prepared .ends k (z .below) }
+  list-asked = record { below = six; inside = omega (arith, z .prepared .ends k (z .below), z .prepared .within k (z .below)) }
 
   labels-here : partIn l k bytes ≡ labelsOf l bytes k
   unfolding partIn
