@@ -11,7 +11,7 @@ ghost use Rattle.method.specs.Cycle.{airSum, relaxed};
 ghost use Rattle.smooth.specs.Fields.{u-of, b-of};
 ghost use Rattle.smooth.specs.Sweeps.{sweptUp, sweptDown};
 ghost use Rattle.grid.specs.Entries.{cellsOf};
-ghost use Rattle.smooth.specs.Entries.{picked, Reads, Entry, AllRead, Entries, EntryLevel};
+ghost use Rattle.smooth.specs.Entries.{picked, Reads, Entry, AllRead, Entries};
 
 // The place of the neighbour one step back where its bit is set, else of the zero.
 fn pick_back(e: u32, unit: u32, c: usize, step: usize, zero: usize) -> usize
@@ -90,16 +90,4 @@ pub fn sweep_down(room: &mut [f64], list: &[u32], n: usize, nx: usize, plane: us
         k -= 1;
         relax_entry(room, n, nx, plane, zero, list[k]);
     }
-}
-
-// The same for a caller that holds the labels, which are not read: the room's last element is the zero.
-pub fn sweep(room: &mut [f64], labels: &[u8], list: &[u32], g: method::Sides)
-    requires { ⌜ EntryLevel g (now labels) (now list) (now room) ⌝ }
-    ensures { λ _. ⌜ value (now (room .exit)) (length (now (room .exit)) - 1) ≡ +0 ⌝ }
-    ensures { λ _. ⌜ now (room .exit) ≡ sweptUp g (now (labels .entry)) (cellsOf (now (list .entry))) (b-of (cells g) (now (room .entry))) (u-of (cells g) (now (room .entry))) ++ drop (cells g) (now (room .entry)) ⌝ }
-{
-    let nx = g.nx as usize;
-    let plane = nx * (g.ny as usize);
-    let zero = room.len() - 1;
-    sweep_up(room, list, labels.len(), nx, plane, zero);
 }
