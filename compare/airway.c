@@ -1,6 +1,7 @@
 /*
- * The separate implementation: document 01's program, written from the
- * document alone, to be compared with the project's own.
+ * The separate implementation: document 01's program with the requests of
+ * document 02 that have landed, written from the documents alone, to be
+ * compared with the project's own.
  *
  *   airway [--room N]            one session on standard input
  *   airway [--room N] --frames   many sessions, each behind a line bytes=N
@@ -42,7 +43,7 @@ enum {
 };
 
 #define RESTRICTION_DIVISOR 512.0
-#define PROLONGATION_DIVISOR 256.0
+#define PROLONGATION_DIVISOR 16.0    /* document 02, wish 4 */
 #define GREATEST_TICK 2199023255552.0   /* 2^41 */
 
 /* ------------------------------------------------------------------ */

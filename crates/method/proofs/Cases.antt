@@ -97,6 +97,12 @@ abbrev pub 512f : Float
 abbrev pub 256f : Float
 256f = fin false 1 (pos 8)
 
+abbrev pub 432f : Float
+432f = fin false 27 (pos 4)
+
+abbrev pub 144f : Float
+144f = fin false 9 (pos 4)
+
 abbrev pub corner : List Float
 corner = prolongated cube (replicate 64 0) (256f ∷ replicate 7 +0)
 
@@ -133,7 +139,7 @@ table =
     ∷ case (map (slope (pos 0 ∷ pos 9 ∷ pos 20 ∷ pos 30 ∷ [])) (1 ∷ 2 ∷ [])) (pos 2 ∷ negsuc 0 ∷ [])
     ∷ case (map (λ o. valueRead o (0 ∷ 0 ∷ 2 ∷ 0 ∷ [])) (Big ∷ Little ∷ [])) (pos 512 ∷ pos 131072 ∷ [])
     ∷ case (restricted cube (replicate 64 0) (replicate 64 512f)) (replicate 8 (whole 343))
-    ∷ case (map (value corner) (0 ∷ 1 ∷ 2 ∷ [])) (whole 27 ∷ whole 27 ∷ whole 9 ∷ [])
+    ∷ case (map (value corner) (0 ∷ 1 ∷ 2 ∷ [])) (432f ∷ 432f ∷ 144f ∷ [])
     ∷ case (map tick (½ ∷ -½ ∷ -0 ∷ [])) (Whole (pos 1) ∷ Whole (negsuc 0) ∷ Whole (pos 0) ∷ [])
     ∷ case (map tick (2^41f ∷ 2^41+1f ∷ nan ∷ [])) (Whole (pos (2 ^ 41)) ∷ Refused ∷ Refused ∷ [])
     ∷ case (solving faulty .answer) (answer 4 4 0 0 0 0)
@@ -187,7 +193,7 @@ pub case-h : restricted cube (replicate 64 0) (replicate 64 512f) ≡ replicate 
 unfolding table
 case-h = holds-at table all-hold 9
 
-pub case-i : map (value corner) (0 ∷ 1 ∷ 2 ∷ []) ≡ whole 27 ∷ whole 27 ∷ whole 9 ∷ []
+pub case-i : map (value corner) (0 ∷ 1 ∷ 2 ∷ []) ≡ 432f ∷ 432f ∷ 144f ∷ []
 unfolding table
 case-i = holds-at table all-hold 10
 
