@@ -47,9 +47,9 @@ quetz_session.start at 56 of 8
 quetz_written has 32
 quetz_written.answer at 0 of 24
 quetz_written.count at 24 of 8
-read 0: sides 2 3 1, order 1, settings 4 5 6, start 61
+read 0: sides 2 3 1, order 1, settings 4 5 6, start 58
 read 10, place 2
-written 0, count 91
+written 0, count 88
 needs 28 112 12
 """
 
@@ -109,15 +109,11 @@ THREADS = r"""
 #include <string.h>
 #include "quetzalcup.h"
 enum { SIDE = 9, CELLS = SIDE * SIDE * SIDE, THREADS = 4 };
-static const quetz_task task = {{SIDE, SIDE, SIDE}, {3, 3, 200}};
+static const quetz_task task = {{SIDE, SIDE, SIDE}, {6, 6, 200}};
+static uint8_t labels[CELLS];
+static int32_t values[CELLS];
 static int64_t pressures[THREADS + 1][CELLS];
 static void *run(void *own) {
-    uint8_t labels[CELLS];
-    int32_t values[CELLS];
-    for (int c = 0; c < CELLS; c++) {
-        labels[c] = c % 40 == 0 ? 1 : c % 7 == 0 ? 2 : 0;
-        values[c] = labels[c] == 1 ? 1000 * c - 300000 : labels[c] == 0 ? c % 1000 : 0;
-    }
     size_t b = quetz_byte_need(task.sides), f = quetz_float_need(task.sides), w = quetz_word_need(task.sides);
     uint8_t *bytes = malloc(b);
     double *floats = malloc(f * sizeof *floats);
@@ -131,8 +127,13 @@ static void *run(void *own) {
 }
 int main(void) {
     pthread_t threads[THREADS];
-    int wrong = run(pressures[THREADS]) == NULL;
-    for (int k = 0; k < THREADS; k++) wrong |= pthread_create(&threads[k], NULL, run, pressures[k]) != 0;
+    pthread_attr_t small;
+    for (int c = 0; c < CELLS; c++) {
+        labels[c] = c % 40 == 0 ? 1 : c % 7 == 0 ? 2 : 0;
+        values[c] = labels[c] == 1 ? 1000 * c - 300000 : labels[c] == 0 ? c % 1000 : 0;
+    }
+    int wrong = run(pressures[THREADS]) == NULL || pthread_attr_init(&small) != 0 || pthread_attr_setstacksize(&small, 65536) != 0;
+    for (int k = 0; k < THREADS; k++) wrong |= pthread_create(&threads[k], &small, run, pressures[k]) != 0;
     for (int k = 0; k < THREADS; k++) {
         void *answered = NULL;
         pthread_join(threads[k], &answered);
@@ -145,7 +146,7 @@ int main(void) {
 
 
 def threads_differ(compiler, folder, runs):
-    """Four threads at once, each with slices of its own, against one alone."""
+    """Four threads at once, each with slices and 64 KiB of stack of its own, against one alone."""
     with open(os.path.join(folder, "threads.c"), "w", encoding="ascii") as file:
         file.write(THREADS)
     if not compiled([compiler, "-std=c17", "-O2", *STRICT, "threads.c", os.path.join(LIBRARY, "libquetzalcup.a"), "-pthread", "-o", "threads"], folder):
@@ -190,7 +191,7 @@ def main():
     line = valgrind_line(options.program)
     if line is None:
         return 1
-    print(f"library: header as C17 and C++17, layout, examples in C and Python, four threads at once; {line}")
+    print(f"library: header as C17 and C++17, layout, examples in C and Python, four threads at once on 64 KiB of stack each; {line}")
     return 0
 
 
