@@ -435,15 +435,20 @@ static long count_air(const Level *l)
 /* ------------------------------------------------------------------ */
 /* Whole ticks and the exact residual                                 */
 
-/* "nearest whole tick, halves away from zero"; false: not finite or out of range */
+/* "nearest whole tick", and document 02, wish 3: "a tie goes to the even tick"; false: not finite or out of range.
+ * The whole part, and what is left of x without it, are exact. */
 static bool whole_tick(double x, int64_t *tick)
 {
-    if (!isfinite(x))
+    double size = fabs(x);
+    if (!(size < 2.0 * GREATEST_TICK))
         return false;
-    double rounded = round(x);
-    if (fabs(rounded) > GREATEST_TICK)
+    int64_t low = (int64_t)size;
+    double left = size - (double)low;
+    if (left > 0.5 || (left == 0.5 && low % 2 != 0))
+        low++;
+    if ((double)low > GREATEST_TICK)
         return false;
-    *tick = (int64_t)rounded;
+    *tick = x < 0.0 ? -low : low;
     return true;
 }
 

@@ -4,7 +4,8 @@
     program.py --program OUT [--seed S] [--count N]
 
 Runs ./airway on the sample sessions of examples/ and on document 01's own cases, and the built program on generated sessions, sound and
-damaged, on a sample session cut at many places, and on inputs of a megabyte. Each must print what OUT prints; document 01's example its nine lines.
+damaged, on a sample session cut at many places, on inputs of a megabyte, and on two that a shorter buffer would cut. Each must print what OUT prints;
+document 01's example its nine lines, and those two their answers.
 """
 import argparse
 import os
@@ -49,6 +50,17 @@ def by_program(seed, count):
         yield name, session
 
 
+def at_the_end():
+    """Sessions of the built program's 1,000 cells whose last bytes decide, by name, with what is to be printed."""
+    labels, values = [1] + [0] * 999, [7] + [0] * 999
+    more = generate.session_bytes(10, 10, 10, "little", 1_000_000, 6, 1000, labels, values) + b"\0"
+    assert len(more) == 5071
+    yield "5,071 bytes, one too many", more, example.refused(11, 0)
+    wide = generate.session_bytes(10, 10, 10, "little", 9_999_999, 9_999_999, 9_999_999, labels, values)
+    assert len(wide) == 5079
+    yield "5,079 bytes, settings out of range", wide, example.refused(3, 0)
+
+
 def main():
     parser = argparse.ArgumentParser()
     parser.add_argument("--program", required=True)
@@ -71,6 +83,8 @@ def main():
         compare(name, session, [SCRIPT], want)
     for name, session in by_program(chosen.seed, chosen.count):
         compare(name, session, programs.command("airway"), None)
+    for name, session, want in at_the_end():
+        compare(name, session, programs.command("airway"), want)
     if make_examples.differing():
         wrong += 1
         print("examples/ is not what make_examples.py writes")

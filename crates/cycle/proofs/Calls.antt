@@ -1,5 +1,6 @@
--- What a caller of `cycle` needs: that the rooms which `all_labels` and `all_lists` leave are prepared, and that the promise is one result. Assumes nothing.
-use Prim.Native.Nat.{ℕ, zero, suc, _+_, _*_, _≤_, _<_}
+-- What a caller of `cycle` needs: that the rooms which `all_labels` and `all_lists` leave are prepared, what a room is with a zero at its end,
+-- and that the promise is one result. Assumes nothing.
+use Prim.Native.Nat.{ℕ, zero, suc, _+_, _-_, _*_, _≤_, _<_}
 use mathlib.Core.Path.{_≡_, refl, sym, ap, ap₂, subst, _∙_}
 use mathlib.Core.Logic.{⊎-elim}
 use mathlib.Core.Bool.{cond}
@@ -8,12 +9,15 @@ use native.Mathlib.Nat.{le-of-suc-le-suc, eq-or-lt-of-le}
 use native.Mathlib.Omega.{arith}
 use borrow.Author.Tests.{lt-ltb}
 use lib.Dec.{ltb}
-use lib.ListN.{length, getD, take, drop, length-append}
-use lib.Seq.{drop-at, take-length}
-use lib.Ieee.{Float}
+use lib.ListN.{length, getD, set, take, drop, length-append, length-set}
+use lib.Seq.{drop-at, take-length, take-set-le, getD-set-same}
+use lib.Ieee.{Float, nan}
+use Rattle.laws.specs.Binary64.{+0}
 use Rattle.laws.proofs.Lists.{getD-tab}
+use Rattle.laws.proofs.Fill.{part-take}
 use Rattle.method.specs.declared.Sides.{Sides}
 use Rattle.method.specs.Cast.{cells}
+use Rattle.method.specs.Levels.{value}
 use Rattle.theory.specs.Levels.{airBefore}
 use Rattle.theory.proofs.Sides.{Fit, fits}
 use Rattle.theory.proofs.Sizes.{cells-of-six}
@@ -26,7 +30,8 @@ use Rattle.levels.specs.AllLists.{baseLabels, listAt, listsBefore, firsts, list
 use Rattle.levels.proofs.Calls.{part-left, lists-asked}
 use Rattle.levels.proofs.Labelled.{room-enough}
 use Rattle.smooth.specs.Fields.{u-of, b-of}
-use Rattle.cycle.specs.Strokes.{Put}
+use Rattle.cycle.specs.Strokes.{Ended, Put}
+use Rattle.cycle.proofs.Laws.{end-kept}
 use Rattle.cycle.proofs.Levels.{fields-all}
 use Rattle.cycle.specs.Rooms.{listFrom, Prepared, fieldsFrom, Ready, cellsOf, Cycled}
 
@@ -117,6 +122,26 @@ ready-first l s count bytes words r p h = record { prepared = p; below = omega (
 -- how much room six levels' fields take
 pub fields-most : (g : Sides) (count : ℕ) → Fit g → count ≤ 6 → fieldsFrom g count 0 ≤ 6 * cells g + 15
 fields-most g count z h = omega (arith, fields-all g count, cells-of-six g (fits g z) count h)
+
+-- ---- a zero set at the room's end: it is there, and all before it stays
+module _ (e : List Float) where
+  abbrev ending : List Float
+  ending = set e (length e - 1) +0
+
+  pub zero-end : (m : ℕ) → m < length e → Ended m ending
+  zero-end m h =
+      let last : length (set e (length e - 1) +0) - 1 ≡ length e - 1 = ap (λ n. n - 1) (length-set e (length e - 1) +0) in
+      record { spare = omega (arith, length-set e (length e - 1) +0); none = ap (value ending) last ∙ getD-set-same e (length e - 1) +0 nan (omega arith) }
+
+  pub zero-part : (k n : ℕ) → k + n < length e → take n (drop k ending) ≡ take n (drop k e)
+  zero-part k n h =
+      sym (part-take k n (length e - 1) ending (omega arith)) ∙ ap (λ s. take n (drop k s)) (take-set-le (length e - 1) e (length e - 1) +0 (omega arith))
+      ∙ part-take k n (length e - 1) e (omega arith)
+
+-- and a cycle keeps it
+pub cycled-end : (l : Levels) (bytes : List ℕ) (count k : ℕ) (e x : List Float) → Ended (fieldsFrom (base l) count k) e → Cycled l bytes count k e x
+    → Ended (fieldsFrom (base l) count k) x
+cycled-end l bytes count k e x n p = end-kept (fieldsFrom (base l) count k) (fieldsFrom (base l) count k) (omega arith) (p .beyond) (p .long) n
 
 -- ---- THE PROMISE IS ONE RESULT, as far as it goes: u, b, all beyond, and the length
 module _ {n m : ℕ} {v e x y : List Float} where

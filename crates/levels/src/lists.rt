@@ -1,4 +1,4 @@
-// The cells that are smoothed on each level, by ascending i + j + k, one level after the other in the word room.
+// The entries of the cells that are smoothed on each level, by ascending i + j + k, one level after the other in the word room.
 ghost use mathlib.Core.Path.{_≡_};
 ghost use Prim.Native.Nat.{_+_, _≤_, _<_};
 ghost use lib.ListN.{length};
@@ -7,6 +7,7 @@ ghost use Rattle.method.specs.Cast.{cells, isAir, interior};
 ghost use Rattle.method.specs.Levels.{inBand};
 ghost use Rattle.theory.specs.Waves.{waveCell, waveLine, waveOf};
 ghost use Rattle.theory.proofs.Sides.{Fit};
+ghost use Rattle.grid.specs.Entries.{entryOf};
 ghost use Rattle.levels.specs.Other.{BandAsked};
 ghost use Rattle.levels.specs.Levels.{base};
 ghost use Rattle.levels.specs.Lists.{Placed, Listed, smoothed, listOf};
@@ -26,13 +27,22 @@ pub struct Gather {
     pub next: usize,
 }
 
-// Cell c is written to the next place if it is to be kept. The next place comes back.
-fn keep(words: &mut [u32], next: usize, c: usize, yes: bool) -> usize
-    requires { ⌜ (c < 32768) × (next + length (kept yes c) ≤ length (now words)) ⌝ }
-    ensures { λ r. ⌜ Placed (now (words .entry)) next (kept yes c) r (now (words .exit)) ⌝ }
+// The entry of cell c of n is written to the next place if the cell is to be kept. The next place comes back.
+fn keep(
+    words: &mut [u32],
+    next: usize,
+    labels: &[u8],
+    g: Sides,
+    n: usize,
+    c: usize,
+    yes: bool,
+) -> usize
+    requires { ⌜ Fit g ⌝ }
+    requires { ⌜ (n ≡ cells g) × (c < cells g) × (next + length (kept yes c) ≤ length (now words)) ⌝ }
+    ensures { λ r. ⌜ Placed (entryOf g (now (labels .entry))) (now (words .entry)) next (kept yes c) r (now (words .exit)) ⌝ }
 {
     if yes {
-        words[next] = c as u32;
+        words[next] = grid::entry::entry_of(labels, g, n, c);
         return next + 1;
     }
     next
@@ -50,33 +60,50 @@ fn keep_band(
     c: usize,
 ) -> usize
     requires { ⌜ BandAsked g h n m c ⌝ }
-    requires { ⌜ (c < 32768) × (next + length (kept (inBand g (now labels) c) c) ≤ length (now words)) ⌝ }
-    ensures { λ r. ⌜ Placed (now (words .entry)) next (kept (inBand g (now (labels .entry)) c) c) r (now (words .exit)) ⌝ }
+    requires { ⌜ next + length (kept (inBand g (now labels) c) c) ≤ length (now words) ⌝ }
+    ensures { λ r. ⌜ Placed (entryOf g (now (labels .entry))) (now (words .entry)) next (kept (inBand g (now (labels .entry)) c) c) r (now (words .exit)) ⌝ }
 {
-    keep(words, next, c, crate::band::in_band(labels, g, h, n, m, c))
+    keep(
+        words,
+        next,
+        labels,
+        g,
+        n,
+        c,
+        crate::band::in_band(labels, g, h, n, m, c),
+    )
 }
 
 // Cell c, if it is air.
-fn keep_air(words: &mut [u32], next: usize, labels: &[u8], c: usize) -> usize
-    requires { ⌜ (c < 32768) × (next + length (kept (isAir (now labels) c) c) ≤ length (now words)) ⌝ }
-    ensures { λ r. ⌜ Placed (now (words .entry)) next (kept (isAir (now (labels .entry)) c) c) r (now (words .exit)) ⌝ }
+fn keep_air(words: &mut [u32], next: usize, labels: &[u8], g: Sides, n: usize, c: usize) -> usize
+    requires { ⌜ Fit g ⌝ }
+    requires { ⌜ (n ≡ cells g) × (c < cells g) × (next + length (kept (isAir (now labels) c) c) ≤ length (now words)) ⌝ }
+    ensures { λ r. ⌜ Placed (entryOf g (now (labels .entry))) (now (words .entry)) next (kept (isAir (now (labels .entry)) c) c) r (now (words .exit)) ⌝ }
 {
-    keep(words, next, c, grid::near::label_at(labels, c) == 0)
+    keep(
+        words,
+        next,
+        labels,
+        g,
+        n,
+        c,
+        grid::near::label_at(labels, c) == 0,
+    )
 }
 
 // Cell c, if it is to be smoothed: in the band, or air.
 fn keep_cell(words: &mut [u32], next: usize, labels: &[u8], g: Sides, band: bool, c: usize) -> usize
     requires { ⌜ Fit g ⌝ }
     requires { ⌜ (c < cells g) × (next + length (kept (smoothed band g (now labels) c) c) ≤ length (now words)) ⌝ }
-    ensures { λ r. ⌜ Placed (now (words .entry)) next (kept (smoothed band g (now (labels .entry)) c) c) r (now (words .exit)) ⌝ }
+    ensures { λ r. ⌜ Placed (entryOf g (now (labels .entry))) (now (words .entry)) next (kept (smoothed band g (now (labels .entry)) c) c) r (now (words .exit)) ⌝ }
 {
+    let n = grid::place::cell_count(g);
     if band {
         let h = crate::sides::halved_of(g);
-        let n = grid::place::cell_count(g);
         let m = grid::place::cell_count(h);
         keep_band(words, next, labels, g, h, n, m, c)
     } else {
-        keep_air(words, next, labels, c)
+        keep_air(words, next, labels, g, n, c)
     }
 }
 
@@ -94,7 +121,7 @@ fn keep_at(
     requires { ⌜ Fit g ⌝ }
     requires { ⌜ (j < g .ny) × (k < g .nz) ⌝ }
     requires { ⌜ next + length (waveCell g (smoothed band g (now labels)) w k j) ≤ length (now words) ⌝ }
-    ensures { λ r. ⌜ Placed (now (words .entry)) next (waveCell g (smoothed band g (now (labels .entry))) w k j) r (now (words .exit)) ⌝ }
+    ensures { λ r. ⌜ Placed (entryOf g (now (labels .entry))) (now (words .entry)) next (waveCell g (smoothed band g (now (labels .entry))) w k j) r (now (words .exit)) ⌝ }
 {
     let near = j + k;
     if w < near {
@@ -121,7 +148,7 @@ fn keep_line(
     requires { ⌜ Fit g ⌝ }
     requires { ⌜ k < g .nz ⌝ }
     requires { ⌜ at + length (waveLine g (smoothed band g (now labels)) w k) ≤ length (now words) ⌝ }
-    ensures { λ r. ⌜ Placed (now (words .entry)) at (waveLine g (smoothed band g (now (labels .entry))) w k) r (now (words .exit)) ⌝ }
+    ensures { λ r. ⌜ Placed (entryOf g (now (labels .entry))) (now (words .entry)) at (waveLine g (smoothed band g (now (labels .entry))) w k) r (now (words .exit)) ⌝ }
 {
     let n = g.ny as usize;
     let mut next = at;
@@ -137,7 +164,7 @@ fn keep_line(
 fn keep_wave(words: &mut [u32], at: usize, labels: &[u8], g: Sides, band: bool, w: usize) -> usize
     requires { ⌜ Fit g ⌝ }
     requires { ⌜ at + length (waveOf g (smoothed band g (now labels)) w) ≤ length (now words) ⌝ }
-    ensures { λ r. ⌜ Placed (now (words .entry)) at (waveOf g (smoothed band g (now (labels .entry))) w) r (now (words .exit)) ⌝ }
+    ensures { λ r. ⌜ Placed (entryOf g (now (labels .entry))) (now (words .entry)) at (waveOf g (smoothed band g (now (labels .entry))) w) r (now (words .exit)) ⌝ }
 {
     let n = g.nz as usize;
     let mut next = at;
