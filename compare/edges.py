@@ -167,7 +167,7 @@ def bad_frames():
 
 
 def both(options, given):
-    ours = programs.run(programs.command("edges"), given)
+    ours = programs.run(programs.harness("edges"), given)
     theirs = programs.run([options.program, "--edges"], given)
     return ours, theirs
 

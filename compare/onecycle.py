@@ -191,7 +191,7 @@ def few_frames():
 # ---------------------------------------------------------------- comparing
 
 def both(options, given):
-    ours = programs.run(programs.command("onecycle"), given)
+    ours = programs.run(programs.harness("onecycle"), given)
     theirs = programs.run([options.program, "--onecycle"], given)
     return ours.split("\n")[:-1], theirs.split("\n")[:-1]
 
@@ -265,7 +265,7 @@ def cycle_times(commands, cast, turns, runs):
 
 
 def measure(options):
-    commands = {"ours": programs.command("onecycle"), "separate": programs.separate(options.program) + ["--onecycle"]}
+    commands = {"ours": programs.harness("onecycle"), "separate": programs.separate(options.program) + ["--onecycle"]}
     slower = 20 if programs.emulated() else 1
     for family in ("room", "strewn"):
         took = {side: cycle_times(commands, timed_casts(side)[family], turns // slower, options.runs) for side, turns in ((16, 800), (32, 100))}

@@ -27,6 +27,21 @@ def command(name):
     return emulated() + [os.path.join(library, "ld-linux-x86-64.so.2"), "--library-path", library, os.path.join(ROOT, "target", "bin", name)]
 
 
+def compiler():
+    """The C compiler for what links against our library, which is for x86-64."""
+    return CROSS if emulated() else "gcc"
+
+
+def crossed():
+    """The words that run a program of that compiler: none on x86-64, the emulator with Debian's cross C library elsewhere."""
+    return emulated() + ["-L", CROSS_LIBRARY] if emulated() else []
+
+
+def harness(name):
+    """The words that run the comparison NAME through the C interface (compare/harness.c, as compare/build left it)."""
+    return crossed() + [os.path.join(ROOT, "target", "compare", "harness"), name]
+
+
 def separate(program):
     """The words that run the separate implementation for the same processor as our programs, so that times compare: as it was
     built on x86-64; elsewhere built anew by Debian's cross compiler, beside it, and run under the emulator too."""

@@ -148,7 +148,7 @@ WANTED = ([f"answer {number}" for number in (0, 1, 3, 4, 5, 6, 7, 8, 9, 10, 11)]
 # ---------------------------------------------------------------- comparing
 
 def both(options, given):
-    return programs.run(programs.command("replay"), given), programs.run([options.program, "--replay"], given)
+    return programs.run(programs.harness("replay"), given), programs.run([options.program, "--replay"], given)
 
 
 def blocks_of(printed):
@@ -257,7 +257,7 @@ def session_times(commands, whole, runs):
 
 
 def measure(options):
-    commands = {"ours": programs.command("replay"), "separate": programs.separate(options.program) + ["--replay"]}
+    commands = {"ours": programs.harness("replay"), "separate": programs.separate(options.program) + ["--replay"]}
     print("| cast | air cells | depth | answer | rounds | replay | separate | ratio |\n|---|---|---|---|---|---|---|---|")
     for side in (8, 16, 32):
         for name, shape in timed_shapes(side).items():

@@ -23,7 +23,7 @@ def main():
     options = arguments()
     wholes = list(generate.sessions(options.seed, options.count, options.max_cells))
     given = b"".join(len(w).to_bytes(4, "big") + w for w in wholes)
-    ours = programs.run(programs.command("reread"), given)
+    ours = programs.run(programs.harness("reread"), given)
     theirs = programs.run([options.program, "--reread"], given)
     seen = ours.count("session=")
     if seen != len(wholes):

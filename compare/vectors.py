@@ -9,6 +9,7 @@ Exit status 0: every vector computes to what the separate implementation gives.
             3: no verdict (a step limit, an error of this script or of its tools): never a pass, and never a catch.
 """
 import argparse
+import concurrent.futures
 import os
 import random
 import re
@@ -381,10 +382,10 @@ def laid_out(folder, vectors, edit):
 DIFFERS = r"(as printed, |computed as far as they go, )?the two types (first )?differ|expected type `"
 
 
-def judged(folder, vectors):
+def judged(folder, jobs):
     """The vectors that differ. Anything else that is not a clean pass is no verdict."""
     done = subprocess.run(["rt", "check"], cwd=folder, stdin=subprocess.DEVNULL, stdout=subprocess.PIPE, stderr=subprocess.STDOUT,
-                          env=dict(os.environ, RT_CUT="0"), check=False)
+                          env=dict(os.environ, RT_CUT="0", **jobs), check=False)
     said = done.stdout.decode("utf-8", "replace")
     if done.returncode == 0:
         if "rt: ok" not in said:
@@ -410,7 +411,7 @@ def compared(separate, options, edit=None, kinds=None):
     folder = tempfile.mkdtemp(prefix="vectors")
     try:
         laid_out(folder, vectors, edit)
-        return vectors, judged(folder, vectors)
+        return vectors, judged(folder, {"RT_JOBS": "1"} if edit else {})
     finally:
         if options.keep:
             print(f"kept: {folder}", file=sys.stderr)
@@ -428,22 +429,25 @@ def edits_in(folder):
     return made
 
 
+def caught(separate, options, name, edit, kinds):
+    """What is to be said of one edit, and 0 where a vector differs, 1 where none does, 3 where there is no verdict."""
+    try:
+        vectors, differing = compared(separate, options, edit, kinds)
+    except NoVerdict as error:
+        return f"wrong edit {name}: no verdict: {error}", 3
+    if not differing:
+        return f"wrong edit {name}: NOT CAUGHT", 1
+    n = differing[0]
+    return f"wrong edit {name}: caught by v{n} ({vectors[n].kind}: {vectors[n].story}), {len(differing)} of {len(vectors)} differ", 0
+
+
 def wrong_edits(separate, options):
-    """Each edit must be caught by a vector that differs. 0: all were; 1: one was not; 3: no verdict on one."""
+    """Each edit must be caught by a vector that differs; as many at a time as the machine has processors. 0: all were; 1: one was not; 3: no verdict on one."""
     worst = 0
-    for name, edit, kinds in edits_in(options.wrong):
-        try:
-            vectors, differing = compared(separate, options, edit, kinds)
-        except NoVerdict as error:
-            print(f"wrong edit {name}: no verdict: {error}")
-            worst = 3
-            continue
-        if differing:
-            n = differing[0]
-            print(f"wrong edit {name}: caught by v{n} ({vectors[n].kind}: {vectors[n].story}), {len(differing)} of {len(vectors)} differ")
-        else:
-            print(f"wrong edit {name}: NOT CAUGHT")
-            worst = max(worst, 1)
+    with concurrent.futures.ThreadPoolExecutor(os.cpu_count() or 1) as pool:
+        for said, status in pool.map(lambda made: caught(separate, options, *made), edits_in(options.wrong)):
+            print(said, flush=True)
+            worst = max(worst, status)
     return worst
 
 

@@ -59,7 +59,7 @@ fn three_lines(bytes: &[u8], first: u32, a: &[u8], b: &[u8], c: &[u8]) -> ThreeR
 }
 
 // The order that the value of its line stands for.
-fn order_of(v: u32) -> Order
+pub fn order_of(v: u32) -> Order
     ensures { λ r. ⌜ r ≡ orderOf v ⌝ }
 {
     if v == 0 { Order::Big } else { Order::Little }

@@ -1,5 +1,5 @@
 -- Document 01, "What comes back": what each call gives and what everything lent holds afterwards, for every input. Definitions only.
-use Prim.Native.Nat.{ℕ, zero, suc, _+_, _*_}
+use Prim.Native.Nat.{ℕ, zero, suc, _+_, _-_, _*_}
 use mathlib.Core.Bool.{Bool, true, false, not, _&&_, _||_}
 use mathlib.Core.List.{List, [], _∷_}
 use lib.Dec.{ltb, leb, eqb}
@@ -124,19 +124,28 @@ contentChecks =
 unfoldable pub readerChecks : List (Check Reading)
 readerChecks = lineCheck ∷ sideCheck ∷ bodyCheck ∷ roomCheck ∷ contentChecks
 
--- the answer; "The reader also hands back sides, order, settings and the label part"; and what the lent values hold
+-- the answer; "The reader also hands back sides, order, settings and the label part"; where in the bytes that part starts; and what the lent values hold
 pub record Read : Type 0 where
   pub answer : Answer
   pub header : Header
+  pub start : ℕ
   pub labels : List ℕ
   pub values : List ℤ
 
 -- "on a refusal these are 0, `big` and an empty part"
 unfoldable pub notRead : Reading → Answer → Read
-notRead r a = let none = headerOf (wrong 0) in record { answer = a; header = none; labels = none .body; values = r .values }
+notRead r a = let none = headerOf (wrong 0) in record { answer = a; header = none; start = 0; labels = none .body; values = r .values }
 
 unfoldable pub isRead : Reading → Read
-isRead r = let h = named r in record { answer = done; header = h; labels = labelsIn h; values = filled (cells (h .sides)) (valuesIn h) (r .values) }
+isRead r =
+    let h = named r in
+    record {
+      answer = done;
+      header = h;
+      start = length (r .bytes) - length (h .body);
+      labels = labelsIn h;
+      values = filled (cells (h .sides)) (valuesIn h) (r .values);
+    }
 
 unfoldable pub readingBy : List (Check Reading) → Reading → Read
 readingBy checks r = elim (verdict checks r) [ refused num place ↦ notRead r (refusal num place) | passed ↦ isRead r ]

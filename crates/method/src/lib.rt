@@ -1,6 +1,7 @@
-// The types that the meaning and the code share. No code: what they mean stands in specs/.
+// The types that the meaning and the code share. No code: what they mean stands in specs/. Those of the C interface are laid out as C lays them out.
 
 // The sides of a box of cells.
+#[repr(C)]
 pub struct Sides {
     pub nx: u32,
     pub ny: u32,
@@ -13,6 +14,7 @@ pub enum Order {
     Little,
 }
 
+#[repr(C)]
 pub struct Settings {
     pub tolerance: u32,
     pub levels: u32,
@@ -20,6 +22,7 @@ pub struct Settings {
 }
 
 // What comes back from every call.
+#[repr(C)]
 pub struct Answer {
     pub number: u32,
     pub place: u32,

@@ -34,6 +34,7 @@ pub record ReadOf (bytes : List ℕ) (old : List ℤ) (r : Session) (new : List 
   pub sides : r .sides ≡ reading (record { bytes = bytes; values = old }) .header .sides
   pub order : r .order ≡ reading (record { bytes = bytes; values = old }) .header .order
   pub settings : r .settings ≡ reading (record { bytes = bytes; values = old }) .header .settings
+  pub start : r .start ≡ reading (record { bytes = bytes; values = old }) .start
   pub values : new ≡ reading (record { bytes = bytes; values = old }) .values
   pub are-bytes : Bytes bytes
 
@@ -90,12 +91,10 @@ FitIf (Passed h) = Fit (h .sides)
 
 unfoldable pub takenOf : Judged → Taken
 takenOf (Refused num place) = record {
-  session = record { answer = refusal num place; sides = record { nx = 0; ny = 0; nz = 0 }; order = Big; settings = record { tolerance = 0; levels = 0; rounds = 0 } };
-  start = 0;
+  session = record { answer = refusal num place; sides = record { nx = 0; ny = 0; nz = 0 }; order = Big; settings = record { tolerance = 0; levels = 0; rounds = 0 }; start = 0 };
   count = 0;
 }
 takenOf (Passed h) = record {
-  session = record { answer = done; sides = h .sides; order = h .order; settings = h .settings };
-  start = h .start;
+  session = record { answer = done; sides = h .sides; order = h .order; settings = h .settings; start = h .start };
   count = cells (h .sides);
 }

@@ -28,22 +28,23 @@ enum Judged {
     Passed(Header),
 }
 
-// What the reader hands back beside the label part.
+// What the reader hands back beside the label part, and where in the bytes that part starts.
 pub struct Session {
     pub answer: Answer,
     pub sides: Sides,
     pub order: Order,
     pub settings: Settings,
+    pub start: usize,
 }
 
-// What is taken of a session: what is handed back, where the body starts, and how many cells are read.
+// What is taken of a session: what is handed back, and how many cells are read.
 struct Taken {
     session: Session,
-    start: usize,
     count: usize,
 }
 
 // What the writer hands back.
+#[repr(C)]
 pub struct Written {
     pub answer: Answer,
     pub count: usize,
@@ -70,12 +71,9 @@ fn taken_of(judged: Judged) -> Taken
                     levels: 0,
                     rounds: 0,
                 },
-            };
-            Taken {
-                session,
                 start: 0,
-                count: 0,
-            }
+            };
+            Taken { session, count: 0 }
         }
         Judged::Passed(h) => {
             let sides = h.sides;
@@ -88,13 +86,10 @@ fn taken_of(judged: Judged) -> Taken
                 sides,
                 order,
                 settings,
+                start,
             };
             let count = cell_count(sides);
-            Taken {
-                session,
-                start,
-                count,
-            }
+            Taken { session, count }
         }
     }
 }
@@ -107,7 +102,7 @@ pub fn read(bytes: &[u8], values: &mut [i32]) -> Session
     let taken = taken_of(judged);
     let session = taken.session;
     let order = session.order;
-    let start = taken.start;
+    let start = session.start;
     let count = taken.count;
     let body = rest(bytes, start);
     store_values(body, count, order, values);
@@ -120,7 +115,8 @@ pub fn labels(bytes: &[u8], room: usize) -> &[u8]
 {
     let judged = judge_session(bytes, room);
     let taken = taken_of(judged);
-    let start = taken.start;
+    let session = taken.session;
+    let start = session.start;
     let count = taken.count;
     &bytes[start..start + count]
 }

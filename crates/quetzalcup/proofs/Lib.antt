@@ -1,0 +1,3 @@
+-- Laws of the C interface, and that each promise allows one result.
+pub mod Laws
+pub mod Unique

@@ -1,0 +1,27 @@
+-- `quetzalcup::quetz_float_need` meets its contract. Assumes nothing.
+use Rattle.quetzalcup.proofs.Laws.{sides}
+use Rattle.quetzalcup.proofs.quetz_float_need.Statement.{statement}
+use Rattle.quetzalcup.proofs.quetz_float_need.Tie as tie
+
+sides-fit-requires : tie.Need-sides-fit-requires
+sides-fit-requires c κs = search sides
+
+cell-count-requires : tie.Need-cell-count-requires
+cell-count-requires c κs = search sides
+
+mul-result : tie.Need-mul-result
+mul-result c = search sides
+
+add-result : tie.Need-add-result
+add-result c = search sides
+
+returns : tie.Need-returns
+returns c = search sides
+
+returns-2 : tie.Need-returns-2
+returns-2 c = search sides
+
+pub quetz-float-need-spec : {M : Type 1} → statement M
+quetz-float-need-spec =
+    tie.close
+    (tie.spec sides-fit-requires cell-count-requires mul-result add-result returns returns-2)
