@@ -1,8 +1,7 @@
 #!/usr/bin/env python3
-"""Direct calls of the solver, by our program `edges` and by the separate implementation: every answer, every pressure lent, and the rooms.
+"""Direct calls of the solver, through the library and by the separate implementation: every answer, every pressure lent, and the rooms.
 
-edges.py --program AIRWAY [--seed S] [--calls N]     compares; status 1 where a print differs or something to be covered is missing
-edges.py --frames                                    writes a few calls and a frame that is cut off: crates/edges/stdin"""
+edges.py --program AIRWAY [--seed S] [--calls N]     compares; status 1 where a print differs or something to be covered is missing"""
 import argparse
 import collections
 import random
@@ -148,10 +147,6 @@ def calls(seed, count):
     return made + [random_call(random.Random(f"edges {seed}/{number}")) for number in range(count)]
 
 
-def few_frames():
-    few = [CASTS["the example"], CASTS["six levels"]] + list(lengths(SOUND))[:18] + list(CASTS.values())[2:] + list(ranges(SOUND))[:14]
-    return b"".join(frame(call) for call in few) + b"\0\0\0\3\0"
-
 
 # ---------------------------------------------------------------- comparing
 
@@ -202,21 +197,14 @@ def compare(options):
 
 def arguments():
     parser = argparse.ArgumentParser(description="Direct calls of the solver, compared.")
-    parser.add_argument("--program", help="the separate implementation, built")
+    parser.add_argument("--program", required=True, help="the separate implementation, built")
     parser.add_argument("--seed", default="1")
     parser.add_argument("--calls", type=int, default=1000)
-    parser.add_argument("--frames", action="store_true")
-    options = parser.parse_args()
-    if options.program is None and not options.frames:
-        parser.error("--program is needed")
-    return options
+    return parser.parse_args()
 
 
 def main():
     options = arguments()
-    if options.frames:
-        sys.stdout.buffer.write(few_frames())
-        return 0
     return compare(options)
 
 

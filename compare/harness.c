@@ -4,6 +4,7 @@
  *     harness edges       direct calls of the solver with any sides, settings and lengths
  *     harness reread      reader, writer and walks by themselves, then direct calls at the edges of lengths and ranges
  *     harness onecycle    the cycle on many casts, each element of the result by its bits
+ *     harness ticks       binary64 numbers as whole ticks
  *     harness layout      sizes and offsets of the interface's structs, as the compiler sees them and as a call fills them
  *
  * Everything lent stands in a heap block of its own, with a guard before and behind it, full of a pattern before the call; with
@@ -16,17 +17,21 @@
 
 #include "quetzalcup.h"
 
-/* ---------------------------------------------------------------- what is exported for tests alone (crate library_tests) */
+/* ---------------------------------------------------------------- what is exported for tests alone (crates/library_tests) */
 
-typedef struct { uint32_t depth, is_sealed, sealed; } test_walk;
+typedef struct { uint32_t fits, depth, is_sealed, sealed; } test_walk;
+typedef struct { uint32_t is_whole; int64_t value; } test_tick;
 
-/* u from b by one cycle, on a room that starts with u and b; 0 where sides, levels or lengths do not fit */
-uint32_t quetz_test_cycle(quetz_sides sides, uint32_t levels,
+/* u from b by the cycle, run so many times, on a room that starts with u and b: 1; or 0 where sides, levels or lengths do not fit */
+uint32_t quetz_test_cycle(quetz_sides sides, uint32_t levels, uint32_t times,
                           const uint8_t *labels, size_t labels_length, uint8_t *bytes, size_t bytes_length,
                           double *floats, size_t floats_length, uint32_t *words, size_t words_length);
 
-/* depth, or the first sealed cell, of a cast whose sides and lengths fit; else all 0 */
+/* depth, and the first sealed cell, of a cast whose sides and lengths fit; else all 0 */
 test_walk quetz_test_walk(quetz_sides sides, const uint8_t *labels, size_t labels_length, uint32_t *words, size_t words_length);
+
+/* the whole tick that a number rounds to */
+test_tick quetz_test_tick(double x);
 
 /* ---------------------------------------------------------------- what is lent */
 
@@ -447,7 +452,7 @@ static int reread(void) {
 
 /* ---------------------------------------------------------------- onecycle */
 
-/* The cycle on one cast, so many times: each starts from u = 0, so that all give the same. */
+/* The cycle on one cast, so many times: each starts from u = 0 and leaves b, so that all give the same. */
 static bool run_cycle(quetz_sides g, uint32_t levels, uint32_t times, const uint8_t *labels, const double *b, size_t n) {
     uint8_t *own = lend(n), *bytes = lend(2 * n + 16);
     double *floats = lend((8 * n + 64) * sizeof(double));
@@ -460,11 +465,8 @@ static bool run_cycle(quetz_sides g, uint32_t levels, uint32_t times, const uint
     for (size_t i = 0; i < 2 * n + 5; i++) {
         words[i] = WORD_PATTERN;
     }
-    bool ran = true;
-    for (uint32_t k = 0; k < (times > 1 ? times : 1) && ran; k++) {
-        memcpy(floats + n, b, n * sizeof(double));
-        ran = quetz_test_cycle(g, levels, own, n, bytes, 2 * n + 16, floats, 8 * n + 64, words, 2 * n + 5) == 1;
-    }
+    memcpy(floats + n, b, n * sizeof(double));
+    bool ran = quetz_test_cycle(g, levels, times, own, n, bytes, 2 * n + 16, floats, 8 * n + 64, words, 2 * n + 5) == 1;
     for (size_t i = 0; i < n && ran; i++) {
         uint64_t bits;
         memcpy(&bits, floats + i, sizeof bits);
@@ -511,6 +513,25 @@ static int onecycle(void) {
     }
     free(raw);
     free(b);
+    return 0;
+}
+
+/* ---------------------------------------------------------------- ticks */
+
+/* Eight bytes a number, the most significant first. */
+static int ticks(void) {
+    uint8_t raw[8];
+    while (read_exactly(raw, sizeof raw)) {
+        uint64_t bits = (uint64_t)four_at(raw) << 32 | four_at(raw + 4);
+        double x;
+        memcpy(&x, &bits, sizeof x);
+        test_tick t = quetz_test_tick(x);
+        if (t.is_whole) {
+            printf("%" PRId64 "\n", t.value);
+        } else {
+            puts("none");
+        }
+    }
     return 0;
 }
 
@@ -570,13 +591,13 @@ static int layout(void) {
 }
 
 int main(int count, char **words) {
-    static const struct { const char *name; int (*run)(void); } RUNS[] = {{"replay", replay}, {"edges", edges}, {"reread", reread}, {"onecycle", onecycle}, {"layout", layout}};
+    static const struct { const char *name; int (*run)(void); } RUNS[] = {{"replay", replay}, {"edges", edges}, {"reread", reread}, {"onecycle", onecycle}, {"ticks", ticks}, {"layout", layout}};
     exact = getenv("QUETZ_EXACT") != NULL;
     for (size_t k = 0; count == 2 && k < sizeof RUNS / sizeof RUNS[0]; k++) {
         if (strcmp(words[1], RUNS[k].name) == 0) {
             return RUNS[k].run();
         }
     }
-    fputs("usage: harness replay | edges | reread | onecycle | layout\n", stderr);
+    fputs("usage: harness replay | edges | reread | onecycle | ticks | layout\n", stderr);
     return 2;
 }

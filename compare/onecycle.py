@@ -1,9 +1,8 @@
 #!/usr/bin/env python3
-"""One cycle, by our program `onecycle` and by the separate implementation, on generated casts: every element's bits.
+"""One cycle, through the library and by the separate implementation, on generated casts: every element's bits.
 
 onecycle.py --program AIRWAY [--seed S] [--count N]     compares; status 1 where a print differs or something to be covered is missing
-onecycle.py --program AIRWAY --time [--runs R]          the time of one cycle at 16x16x16 and 32x32x32, and the ratios
-onecycle.py --frames                                    writes a few small casts and a frame that is cut off: crates/onecycle/stdin"""
+onecycle.py --program AIRWAY --time [--runs R]          the time of one cycle at 16x16x16 and 32x32x32, and the ratios"""
 import argparse
 import collections
 import random
@@ -182,11 +181,6 @@ def bad_frames():
         yield frame(good) + frame(good)[:cut]
 
 
-def few_frames():
-    """What `rt check` runs our program on: small casts of every number of levels, and a frame that is cut off."""
-    small = list(casts("1", 6 * LEVELS))[4 * LEVELS:]
-    return b"".join(frame(cast) for cast in small if len(cast.labels) <= 60) + b"\x02\x01\x01"
-
 
 # ---------------------------------------------------------------- comparing
 
@@ -279,23 +273,16 @@ def measure(options):
 
 def arguments():
     parser = argparse.ArgumentParser(description="One cycle, compared, or timed.")
-    parser.add_argument("--program", help="the separate implementation, built")
+    parser.add_argument("--program", required=True, help="the separate implementation, built")
     parser.add_argument("--seed", default="1")
     parser.add_argument("--count", type=int, default=1200)
     parser.add_argument("--time", action="store_true")
     parser.add_argument("--runs", type=int, default=9)
-    parser.add_argument("--frames", action="store_true")
-    options = parser.parse_args()
-    if options.program is None and not options.frames:
-        parser.error("--program is needed")
-    return options
+    return parser.parse_args()
 
 
 def main():
     options = arguments()
-    if options.frames:
-        sys.stdout.buffer.write(few_frames())
-        return 0
     return measure(options) if options.time else compare(options)
 
 

@@ -49,7 +49,7 @@ def separate(program):
         return [program]
     crossed = program + "-x86-64"
     subprocess.run(["bash", os.path.join(ROOT, "compare", "build"), os.path.dirname(crossed)], check=True,
-                   env=dict(os.environ, CC=CROSS, NAME=os.path.basename(crossed)))
+                   env=dict(os.environ, CC=CROSS, NAME=os.path.basename(crossed), ONLY="separate"))
     return emulated() + ["-L", CROSS_LIBRARY, crossed]
 
 

@@ -1,9 +1,8 @@
 #!/usr/bin/env python3
-"""Whole solves, by our program `replay` and by the separate implementation, on generated sessions, sound and damaged: byte for byte.
+"""Whole solves, through the library and by the separate implementation, on generated sessions, sound and damaged: byte for byte.
 
 replay.py --program AIRWAY [--seed S] [--sessions N]     compares; status 1 where a print differs, a room is broken or something to be covered is missing
-replay.py --program AIRWAY --time [--runs R]             answers, rounds and times at 8x8x8, 16x16x16 and 32x32x32 with 6 levels, and the ratios
-replay.py --frames                                       writes a few sessions and a frame that is cut off: crates/replay/stdin"""
+replay.py --program AIRWAY --time [--runs R]             answers, rounds and times at 8x8x8, 16x16x16 and 32x32x32 with 6 levels, and the ratios"""
 import argparse
 import collections
 import random
@@ -75,11 +74,6 @@ def made_sessions(seed, count):
     wholes += [great_session(number, seed) for number in range(8 * LEVELS)]
     return wholes + list(generate.sessions(seed, max(0, count - len(wholes)), 1000, "all"))
 
-
-def few_frames():
-    """What `rt check` runs our program on: small sessions, and a frame that is cut off."""
-    wholes = [session for _, session, _ in example.cases()] + list(generate.sessions("7", 24, 40, "all"))
-    return b"".join(map(generate.framed, wholes)) + b"bytes=7\nnx=1\n"
 
 
 # ---------------------------------------------------------------- what was covered
@@ -275,23 +269,16 @@ def measure(options):
 
 def arguments():
     parser = argparse.ArgumentParser(description="Whole solves, compared, or timed.")
-    parser.add_argument("--program", help="the separate implementation, built")
+    parser.add_argument("--program", required=True, help="the separate implementation, built")
     parser.add_argument("--seed", default="1")
     parser.add_argument("--sessions", type=int, default=4000)
     parser.add_argument("--time", action="store_true")
     parser.add_argument("--runs", type=int, default=7)
-    parser.add_argument("--frames", action="store_true")
-    options = parser.parse_args()
-    if options.program is None and not options.frames:
-        parser.error("--program is needed")
-    return options
+    return parser.parse_args()
 
 
 def main():
     options = arguments()
-    if options.frames:
-        sys.stdout.buffer.write(few_frames())
-        return 0
     return measure(options) if options.time else compare(options)
 
 

@@ -1,5 +1,5 @@
 #!/usr/bin/env python3
-"""Reader, writer and walks, by our program `reread` and by the separate implementation, on generated sessions: byte for byte.
+"""Reader, writer and walks, through the library and by the separate implementation, on generated sessions: byte for byte.
 
 reread.py --program AIRWAY [--seed S] [--count N] [--max-cells M]"""
 import argparse

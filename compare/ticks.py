@@ -1,8 +1,7 @@
 #!/usr/bin/env python3
-"""A binary64 to its whole tick, by our program `ticked` and by the separate implementation, and both held to exact fractions.
+"""A binary64 to its whole tick, through the library and by the separate implementation, and both held to exact fractions.
 
-ticks.py --program AIRWAY [--seed S] [--count N]     compares; status 1 where a tick differs or something to be covered is missing
-ticks.py --frames                                    writes the patterns that stand in crates/ticked/stdin"""
+ticks.py --program AIRWAY [--seed S] [--count N]     compares; status 1 where a tick differs or something to be covered is missing"""
 import argparse
 import fractions
 import math
@@ -69,11 +68,6 @@ def numbers(seed, count):
     return [y for k in range(42) for y in with_neighbours(ties_at(k))] + edges() + list(others(seed, count))
 
 
-def few_frames():
-    """What `rt check` runs our program on."""
-    xs = [0.5, -0.5, -0.0, 1.5, 2.5, -1.5, -2.5, 0.49999999999999994, FURTHEST - 0.5, FURTHEST + 0.5, -FURTHEST - 0.5, FURTHEST + 0.75, 5e-324, 1e300, math.inf, math.nan]
-    return b"".join(map(bits_of, xs))
-
 
 # ---------------------------------------------------------------- comparing
 
@@ -90,7 +84,7 @@ def wrong_rules_told_apart(got):
 
 def compare(options):
     xs = numbers(options.seed, options.count)
-    ours = programs.run(programs.command("ticked"), b"".join(map(bits_of, xs))).split()
+    ours = programs.run(programs.harness("ticks"), b"".join(map(bits_of, xs))).split()
     asked = " ".join(["1 1 1 0"] + [bits_of(x).hex() for x in xs])
     theirs = programs.run([options.program, "--piece", "tick"], asked.encode("ascii")).split()
     want = [rounded(x, RULES["to even"]) for x in xs]
@@ -113,21 +107,14 @@ def compare(options):
 
 def arguments():
     parser = argparse.ArgumentParser(description="A binary64 to its whole tick, compared.")
-    parser.add_argument("--program", help="the separate implementation, built")
+    parser.add_argument("--program", required=True, help="the separate implementation, built")
     parser.add_argument("--seed", default="1")
     parser.add_argument("--count", type=int, default=4000)
-    parser.add_argument("--frames", action="store_true")
-    options = parser.parse_args()
-    if options.program is None and not options.frames:
-        parser.error("--program is needed")
-    return options
+    return parser.parse_args()
 
 
 def main():
     options = arguments()
-    if options.frames:
-        sys.stdout.buffer.write(few_frames())
-        return 0
     return compare(options)
 
 
