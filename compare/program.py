@@ -4,8 +4,8 @@
     program.py --program OUT [--seed S] [--count N]
 
 Runs ./airway on the sample sessions of examples/ and on document 01's own cases, and the built program on generated sessions, sound and
-damaged, on a sample session cut at many places, on inputs of a megabyte, and on two that a shorter buffer would cut. Each must print what OUT prints;
-document 01's example its nine lines, and those two their answers.
+damaged, on a sample session cut at many places, on inputs of a megabyte, and on two that a shorter buffer would cut; ./airway --large on some of these and on casts up to
+32x32x32. Each must print what OUT prints; document 01's example its nine lines, and those two their answers.
 """
 import argparse
 import os
@@ -18,6 +18,7 @@ import example
 import generate
 import make_examples
 import programs
+import replay
 
 SCRIPT = os.path.join(programs.ROOT, "airway")
 MEGABYTE = 1_000_000
@@ -61,6 +62,16 @@ def at_the_end():
     yield "5,079 bytes, settings out of range", wide, example.refused(3, 0)
 
 
+def by_large(seed):
+    """Sessions for ./airway --large, by name: some small ones, and casts with more than 1,000 cells."""
+    for k, session in enumerate(generate.sessions(seed, 20)):
+        yield f"large: generated session {k}", session
+    for number in range(48):
+        yield f"large: great session {number}", replay.great_session(number, seed)
+    for k, session in enumerate(replay.long_sessions()):
+        yield f"large: long session {k}", session
+
+
 def main():
     parser = argparse.ArgumentParser()
     parser.add_argument("--program", required=True)
@@ -69,12 +80,12 @@ def main():
     chosen = parser.parse_args()
     wrong = runs = 0
 
-    def compare(name, session, words, want):
+    def compare(name, session, words, want, room=()):
         nonlocal wrong, runs
         runs += 1
         # a program that knows its answer reads no further, so what it is given may be more than it takes
         ours = subprocess.run(words, input=session, stdout=subprocess.PIPE, check=True).stdout.decode("ascii")
-        theirs = programs.run([chosen.program], session)
+        theirs = programs.run([chosen.program, *room], session)
         if ours != theirs or (want is not None and ours != want):
             wrong += 1
             print(f"{name}: {programs.first_difference(ours, want if want is not None else theirs)}")
@@ -85,6 +96,8 @@ def main():
         compare(name, session, programs.command("airway"), None)
     for name, session, want in at_the_end():
         compare(name, session, programs.command("airway"), want)
+    for name, session in by_large(chosen.seed):
+        compare(name, session, [SCRIPT, "--large"], None, ("--room", "32768"))
     if make_examples.differing():
         wrong += 1
         print("examples/ is not what make_examples.py writes")

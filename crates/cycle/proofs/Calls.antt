@@ -10,7 +10,7 @@ use native.Mathlib.Omega.{arith}
 use borrow.Author.Tests.{lt-ltb}
 use lib.Dec.{ltb}
 use lib.ListN.{length, getD, set, take, drop, length-append, length-set}
-use lib.Seq.{drop-at, take-length, take-set-le, getD-set-same}
+use lib.Seq.{take-at, drop-at, take-length, take-take, take-set-le, getD-set-same}
 use lib.Ieee.{Float, nan}
 use Rattle.laws.specs.Binary64.{+0}
 use Rattle.laws.proofs.Lists.{getD-tab}
@@ -18,22 +18,24 @@ use Rattle.laws.proofs.Fill.{part-take}
 use Rattle.method.specs.declared.Sides.{Sides}
 use Rattle.method.specs.Cast.{cells}
 use Rattle.method.specs.Levels.{value}
-use Rattle.theory.specs.Levels.{airBefore}
+use Rattle.theory.specs.Levels.{sidesAt, labelsAt, airBefore}
 use Rattle.theory.proofs.Sides.{Fit, fits}
 use Rattle.theory.proofs.Sizes.{cells-of-six}
 use Rattle.levels.specs.declared.sides.Levels.{Levels}
 use Rattle.levels.specs.declared.lists.Lists.{Lists}
 use Rattle.levels.specs.Rooms.{written}
 use Rattle.levels.specs.Levels.{base}
+use Rattle.levels.specs.Lists.{listOf, leftOf}
 use Rattle.levels.specs.AllLabels.{LabelsAsked, allLabels}
-use Rattle.levels.specs.AllLists.{baseLabels, listAt, listsBefore, firsts, listsTo, AllListed, ListsAsked}
+use Rattle.levels.specs.AllLists.{baseLabels, listAt, airAt, listsBefore, firsts, listsTo, AllListed, ListsAsked}
 use Rattle.levels.proofs.Calls.{part-left, lists-asked}
 use Rattle.levels.proofs.Labelled.{room-enough}
 use Rattle.smooth.specs.Fields.{u-of, b-of}
-use Rattle.cycle.specs.Strokes.{Ended, Put}
+use Rattle.cycle.specs.Strokes.{AirList, Ended, Put}
+use Rattle.cycle.proofs.Air.{air-entries}
 use Rattle.cycle.proofs.Laws.{end-kept}
 use Rattle.cycle.proofs.Levels.{fields-all}
-use Rattle.cycle.specs.Rooms.{listFrom, Prepared, fieldsFrom, Ready, cellsOf, Cycled}
+use Rattle.cycle.specs.Rooms.{listFrom, airFrom, AirAt, Prepared, fieldsFrom, Ready, cellsOf, Cycled}
 
 -- ---- each level's list, in the room that `all_lists` leaves
 module _ (g : Sides) (ls : List ℕ) (count : ℕ) where
@@ -41,7 +43,7 @@ module _ (g : Sides) (ls : List ℕ) (count : ℕ) where
   before k = listsBefore g ls count k
 
   abbrev here : ℕ → List ℕ
-  here k = listAt g ls count k
+  here k = airAt g ls count k
 
   lists-inside : (m k : ℕ) → k < m → length (before k) + length (here k) ≤ length (before m)
   unfolding listsBefore
@@ -50,6 +52,18 @@ module _ (g : Sides) (ls : List ℕ) (count : ℕ) where
       (λ e. rw e (omega (arith, length-append (before m) (here m))))
       (λ l. omega (arith, length-append (before m) (here m), lists-inside m k l))
       (eq-or-lt-of-le (le-of-suc-le-suc h))
+
+  -- what is swept stands first
+  swept-first : (k : ℕ) → take (length (listAt g ls count k)) (here k) ≡ listAt g ls count k
+  unfolding listAt airAt
+  swept-first k = take-at (listOf (ltb (k + 1) count) (sidesAt g k) (labelsAt g ls k)) (leftOf (ltb (k + 1) count) (sidesAt g k) (labelsAt g ls k)) _ refl
+
+  swept-within : (k : ℕ) → length (listAt g ls count k) ≤ length (here k)
+  unfolding listAt airAt
+  swept-within k = omega (
+    arith,
+    length-append (listOf (ltb (k + 1) count) (sidesAt g k) (labelsAt g ls k)) (leftOf (ltb (k + 1) count) (sidesAt g k) (labelsAt g ls k)),
+  )
 
   abbrev Part : ℕ → ℕ → Type 0
   Part m k = take (length (here k)) (drop (length (before k)) (before m)) ≡ here k
@@ -79,6 +93,10 @@ module _ (l : Levels) (count : ℕ) (bytes e words : List ℕ) (s : Lists) (a : 
   unfolding listsTo
   count-at k h = ap (λ (t : Lists). getD (t .count) k 0) (p .lists) ∙ first-at (λ j. length (listAt (base l) (baseLabels l bytes) count j)) count k (a .most) h
 
+  air-at : (k : ℕ) → k < count → getD (s .air) k 0 ≡ length (airAt (base l) (baseLabels l bytes) count k)
+  unfolding listsTo
+  air-at k h = ap (λ (t : Lists). getD (t .air) k 0) (p .lists) ∙ first-at (λ j. length (airAt (base l) (baseLabels l bytes) count j)) count k (a .most) h
+
   words-are : words ≡ listsBefore (base l) (baseLabels l bytes) count count ++ drop (0 + length (listsBefore (base l) (baseLabels l bytes) count count)) e
   unfolding written
   words-are = p .room
@@ -90,8 +108,21 @@ module _ (l : Levels) (count : ℕ) (bytes e words : List ℕ) (s : Lists) (a : 
     length-append (listsBefore (base l) (baseLabels l bytes) count count) (drop (0 + length (listsBefore (base l) (baseLabels l bytes) count count)) e),
   )
 
+  air-part : (k : ℕ) → k < count → take (length (airAt (base l) (baseLabels l bytes) count k)) (drop (getD (s .start) k 0) words) ≡ airAt (base l) (baseLabels l bytes) count k
+  air-part k h =
+      ap (λ b. take (length (airAt (base l) (baseLabels l bytes) count k)) (drop b words)) (start-at k h)
+      ∙ ap (λ x. take (length (airAt (base l) (baseLabels l bytes) count k)) (drop (length (listsBefore (base l) (baseLabels l bytes) count k)) x)) words-are
+      ∙ part-left (listsBefore (base l) (baseLabels l bytes) count count) (drop (0 + length (listsBefore (base l) (baseLabels l bytes) count count)) e)
+      (length (listsBefore (base l) (baseLabels l bytes) count k)) (length (airAt (base l) (baseLabels l bytes) count k)) (lists-inside (base l) (baseLabels l bytes) count count k h)
+      ∙ list-part (base l) (baseLabels l bytes) count count k h
+
+  swept-part : (k : ℕ) → k < count → take (length (listAt (base l) (baseLabels l bytes) count k)) (drop (getD (s .start) k 0) words) ≡ listAt (base l) (baseLabels l bytes) count k
+  swept-part k h =
+      sym (take-take (length (listAt (base l) (baseLabels l bytes) count k)) (length (airAt (base l) (baseLabels l bytes) count k)) (drop (getD (s .start) k 0) words) (swept-within (base l) (baseLabels l bytes) count k))
+      ∙ ap (take (length (listAt (base l) (baseLabels l bytes) count k))) (air-part k h) ∙ swept-first (base l) (baseLabels l bytes) count k
+
   pub prepared : Prepared l s count bytes words
-  unfolding listFrom
+  unfolding listFrom airFrom
   prepared = record {
     fit = a .fit;
     laid = a .laid;
@@ -99,13 +130,10 @@ module _ (l : Levels) (count : ℕ) (bytes e words : List ℕ) (s : Lists) (a : 
     most = a .most;
     inside = room-enough (base l) (length bytes) count (a .fit) (a .full) (a .most);
     labels = a .labels;
-    ends = λ k h. omega (arith, start-at k h, count-at k h, lists-inside (base l) (baseLabels l bytes) count count k h, words-long);
-    lists = λ k h.
-        ap₂ (λ n b. take n (drop b words)) (count-at k h) (start-at k h)
-        ∙ ap (λ x. take (length (listAt (base l) (baseLabels l bytes) count k)) (drop (length (listsBefore (base l) (baseLabels l bytes) count k)) x)) words-are
-        ∙ part-left (listsBefore (base l) (baseLabels l bytes) count count) (drop (0 + length (listsBefore (base l) (baseLabels l bytes) count count)) e)
-        (length (listsBefore (base l) (baseLabels l bytes) count k)) (length (listAt (base l) (baseLabels l bytes) count k)) (lists-inside (base l) (baseLabels l bytes) count count k h)
-        ∙ list-part (base l) (baseLabels l bytes) count count k h;
+    ends = λ k h. omega (arith, start-at k h, air-at k h, lists-inside (base l) (baseLabels l bytes) count count k h, words-long);
+    within = λ k h. omega (arith, count-at k h, air-at k h, swept-within (base l) (baseLabels l bytes) count k);
+    lists = λ k h. ap (λ n. take n (drop (getD (s .start) k 0) words)) (count-at k h) ∙ swept-part k h;
+    air = λ k h. ap (λ n. take n (drop (getD (s .start) k 0) words)) (air-at k h) ∙ air-part k h;
   }
 
 -- the same from the labels as `all_labels` was given and left them
@@ -118,6 +146,15 @@ prepared-from l count ls old bytes e words s a b k room long p = prepared l coun
 pub ready-first : (l : Levels) (s : Lists) (count : ℕ) (bytes words : List ℕ) (r : ℕ) → Prepared l s count bytes words → fieldsFrom (base l) count 0 ≤ r
     → Ready l s count 0 bytes words r
 ready-first l s count bytes words r p h = record { prepared = p; below = omega (arith, p .least); roomy = h }
+
+-- and the list of all its air
+pub first-air-asked : (l : Levels) (s : Lists) (count : ℕ) (bytes words : List ℕ) → Prepared l s count bytes words → AirAt s 0 (length words)
+first-air-asked l s count bytes words p = record { below = omega arith; inside = p .ends 0 (omega (arith, p .least)) }
+
+pub first-air : (l : Levels) (s : Lists) (count : ℕ) (bytes words : List ℕ) → Prepared l s count bytes words → length (baseLabels l bytes) ≡ cells (base l)
+    → {es : List ℕ} → es ≡ airFrom s 0 words → AirList (base l) (baseLabels l bytes) es
+unfolding airAt sidesAt labelsAt
+first-air l s count bytes words p len q = air-entries (base l) (baseLabels l bytes) (ltb (0 + 1) count) (p .fit) len (q ∙ p .air 0 (omega (arith, p .least)))
 
 -- how much room six levels' fields take
 pub fields-most : (g : Sides) (count : ℕ) → Fit g → count ≤ 6 → fieldsFrom g count 0 ≤ 6 * cells g + 15

@@ -26,16 +26,18 @@ use Rattle.method.specs.Cast.{cells, isAir}
 use Rattle.method.specs.Levels.{value, halved, coarse, inBand, restricted}
 use Rattle.method.specs.Cycle.{times, sweeps, ascending, descending, jacobi, residue, zeros, coarsest, downstroke}
 use Rattle.theory.proofs.Sides.{Fit}
+use Rattle.theory.specs.Quiet.{Quiet}
 use Rattle.theory.proofs.Children.{band-air}
+use Rattle.theory.proofs.Quiet.{quiet-residue, quiet-descending, quiet-times}
 use Rattle.grid.specs.Entries.{cellsOf}
 use Rattle.smooth.specs.Fields.{u-of, b-of, t-of, Level, Laid}
 use Rattle.smooth.specs.Sweeps.{sweptUp, sweptDown}
-use Rattle.smooth.specs.Entries.{EntryLevel}
+use Rattle.smooth.specs.Entries.{AllRead, InCells, EntryLevel}
 use Rattle.smooth.proofs.Fields.{laid, laid-u, laid-b, laid-t, laid-rest, laid-follows}
 use Rattle.smooth.proofs.After.{after-jacobi, after-residual, zeros-length, inAir-length, sweptUp-length, sweptDown-length}
-use Rattle.smooth.proofs.EntryLaws.{waves-entries, entries-ascending, entries-descending}
+use Rattle.smooth.proofs.EntryLaws.{all-read, waves-entries, entries-ascending, entries-descending}
 use Rattle.transfer.specs.Transfer.{TwoLevels, restrictedRoom}
-use Rattle.cycle.specs.Strokes.{entriesWhere, Ended, swept, sweepTurn, sweptRoom, coarsestTurn, Put, rising, Lowered}
+use Rattle.cycle.specs.Strokes.{entriesWhere, AirList, Ended, swept, sweepTurn, sweptRoom, coarsestTurn, Put, rising, Lowered}
 
 -- ---- parts of a room
 -- a part that lies in the first of two lists
@@ -165,7 +167,7 @@ pub ruleset doubling = (needs, doubled-none, doubled-more, doubled-fits, doubled
 
 -- ---- what a level leaves of its room
 module _ {n : ℕ} {u b t r e : List Float} where
-  laid-long : Laid n u b t r e → length e ≡ 3 * n + length r
+  pub laid-long : Laid n u b t r e → length e ≡ 3 * n + length r
   laid-long p =
       let q : length e ≡ length (u ++ (b ++ (t ++ r))) = ap length (p .is) in
       omega (arith, p .u-length, p .b-length, p .t-length, length-append u (b ++ (t ++ r)), length-append b (t ++ r), length-append t r)
@@ -192,9 +194,16 @@ pub put-later : (n a b : ℕ) (v e x : List Float) → a ≤ b → Put n a v e x
 put-later n a b v e x h p = record { u = p .u; b = p .b; beyond = later a b x e h (p .beyond); long = p .long }
 
 -- ---- the kernels
+jacobi-length : (g : Sides) (ls : List ℕ) (b u : List Float) → length (jacobi g ls b u) ≡ cells g
+unfolding jacobi
+jacobi-length g ls b u = inAir-length g ls _
+
 module _ (g : Sides) (ls : List ℕ) (e x : List Float) (h : 3 * cells g ≤ length e) where
   pub clear-put : x ≡ zeros g ++ drop (cells g) e → Put (cells g) (3 * cells g) (zeros g) e x
   clear-put q = front-put (cells g) (zeros g) e x h (zeros-length g) q
+
+  first-put : x ≡ jacobi g ls (b-of (cells g) e) (zeros g) ++ drop (cells g) e → Put (cells g) (3 * cells g) (jacobi g ls (b-of (cells g) e) (zeros g)) e x
+  first-put q = front-put (cells g) (jacobi g ls (b-of (cells g) e) (zeros g)) e x h (jacobi-length g ls (b-of (cells g) e) (zeros g)) q
 
   jacobi-put : x ≡ jacobi g ls (b-of (cells g) e) (u-of (cells g) e) ++ (b-of (cells g) e ++ (u-of (cells g) e ++ drop (3 * cells g) e))
       → Put (cells g) (3 * cells g) (jacobi g ls (b-of (cells g) e) (u-of (cells g) e)) e x
@@ -235,29 +244,51 @@ module _ (g : Sides) (ls es : List ℕ) (e : List Float) (z : Level g ls e) (n :
   pub air-level : es ≡ entriesWhere g ls (isAir ls) → EntryLevel g ls es e
   air-level q = entry-level (isAir ls) (λ c a. a) q
 
-  -- after Jacobi
-  pub jacobi-level : (d : List Float) → es ≡ entriesWhere g ls (inBand g ls)
-      → d ≡ jacobi g ls (b-of (cells g) e) (u-of (cells g) e) ++ (b-of (cells g) e ++ (u-of (cells g) e ++ drop (3 * cells g) e)) → EntryLevel g ls es d
-  jacobi-level d q p =
-      let put = jacobi-put g ls e d (z .roomy) p in
+  -- after Jacobi from u = 0
+  pub first-level : (d : List Float) → es ≡ entriesWhere g ls (inBand g ls) → d ≡ jacobi g ls (b-of (cells g) e) (zeros g) ++ drop (cells g) e → EntryLevel g ls es d
+  first-level d q p =
+      let put = first-put g ls e d (z .roomy) p in
       let end = end-kept (3 * cells g) (3 * cells g) (omega arith) (put .beyond) (put .long) n in
       level-again (band-level q) (put .long) (end .none)
+
+  -- after descending sweeps: the room's end, and off air u is still zero
+  module _ (m : ℕ) (d : List Float) (q : es ≡ entriesWhere g ls (inBand g ls)) (p : d ≡ sweptRoom m false g ls (cellsOf es) e) where
+    pub swept-end : Ended (3 * cells g) d
+    swept-end = let put = sweeps-put g ls e d (z .roomy) m false (cellsOf es) p in end-kept (3 * cells g) (3 * cells g) (omega arith) (put .beyond) (put .long) n
+
+    pub swept-quiet : Quiet g ls (u-of (cells g) e) → Quiet g ls (u-of (cells g) d)
+    swept-quiet h =
+        let put = sweeps-put g ls e d (z .roomy) m false (cellsOf es) p in
+        let b = b-of (cells g) e in
+        let new : u-of (cells g) d ≡ times m (descending g ls (inBand g ls) (b-of (cells g) e)) (u-of (cells g) e) =
+        put .u ∙ times-down g ls es (z .sides) (inBand g ls) (band-air g ls) q m (b-of (cells g) e) (u-of (cells g) e) in
+        rw new (quiet-times (descending g ls (inBand g ls) b) (quiet-descending (inBand g ls) (band-air g ls) b) m (u-of (cells g) e) h)
+
+-- ---- what the kernels over all air ask of its list
+module _ (g : Sides) (ls es : List ℕ) (e : List Float) (z : Level g ls e) (a : AirList g ls es) where
+  pub air-reads : Ended (3 * cells g) e → AllRead (length ls) (g .nx) (g .nx * g .ny) (length e - 1) (length e) es
+  air-reads n = all-read g ls (length ls) (g .nx) (g .nx * g .ny) (length e - 1) (length e) es (a .entries) (omega (arith, n .spare, z .labelled)) (omega (arith, n .spare))
+
+  pub air-cells : InCells (length ls) es
+  air-cells = record { at = λ k h. omega (arith, a .entries .at k h .here, z .labelled) }
+
+  pub two-in : 2 * length ls ≤ length e
+  two-in = omega (arith, z .labelled, z .roomy)
 
 -- ---- THE STROKES
 module _ (g : Sides) (ls es : List ℕ) (e d x : List Float) (z : Level g ls e) (long : length d ≡ length e) where
   module _ (k m : ℕ) (count : m ≡ sweeps k) (q : es ≡ entriesWhere g ls (inBand g ls)) where
-    pub downstroke-is : u-of (cells g) e ≡ zeros g
-        → d ≡ jacobi g ls (b-of (cells g) e) (u-of (cells g) e) ++ (b-of (cells g) e ++ (u-of (cells g) e ++ drop (3 * cells g) e))
+    pub downstroke-is : d ≡ jacobi g ls (b-of (cells g) e) (zeros g) ++ drop (cells g) e
         → x ≡ sweptRoom m true g ls (cellsOf es) d → Put (cells g) (3 * cells g) (downstroke k g ls (b-of (cells g) e)) e x
     unfolding downstroke
-    downstroke-is o p r =
+    downstroke-is p r =
         let n = cells g in
         let b = b-of (cells g) e in
-        let first = jacobi-put g ls e d (z .roomy) p in
+        let first = first-put g ls e d (z .roomy) p in
         let second = sweeps-put g ls d x (omega (arith, z .roomy)) m true (cellsOf es) r in
         put-as n (3 * n) _ _
-        (times-up g ls es (z .sides) (inBand g ls) (band-air g ls) q m b (jacobi g ls b (u-of n e))
-        ∙ ap₂ (λ j v. times j (ascending g ls (inBand g ls) b) (jacobi g ls b v)) count o)
+        (times-up g ls es (z .sides) (inBand g ls) (band-air g ls) q m b (jacobi g ls b (zeros g))
+        ∙ ap (λ j. times j (ascending g ls (inBand g ls) b) (jacobi g ls b (zeros g))) count)
         (put-then n (3 * n) _ (λ c v. times m (swept true g ls (cellsOf es) c) v) first second)
 
     pub upstroke-is : d ≡ sweptRoom m false g ls (cellsOf es) e
@@ -290,7 +321,7 @@ coarsest-is g ls es e x z q o r =
     ∙ ap (times 8 (descending g ls (isAir ls) b)) (times-up g ls es (z .sides) (isAir ls) (λ c a. a) q 8 b (u-of n e) ∙ ap (times 8 (ascending g ls (isAir ls) b)) o))
     (put-then n (3 * n) _ (λ c v. times 8 (swept false g ls cs c) v) first second)
 
-pub ruleset strokes = (ups, level-again, band-level, air-level, jacobi-level, coarsest-is, downstroke-is, upstroke-is)
+pub ruleset strokes = (ups, level-again, band-level, air-level, first-level, swept-end, swept-quiet, coarsest-is, downstroke-is, upstroke-is)
 
 -- ---- the residual, restricted
 restricted-length : (g : Sides) (ls : List ℕ) (u : List Float) → length (restricted g ls u) ≡ cells (halved g)
@@ -300,6 +331,11 @@ restricted-length g ls u = inAir-length (halved g) (coarse g ls) _
 module _ (g h : Sides) (ls lc : List ℕ) (e d x : List Float) (z : TwoLevels g h ls lc) (room : 3 * cells g + 3 * cells h ≤ length e) where
   pub lower-asks : Level g ls e
   lower-asks = record { sides = z .fits; labelled = z .all; roomy = omega arith }
+
+  -- the residual is made in air only
+  pub lower-quiet : d ≡ u-of (cells g) e ++ (b-of (cells g) e ++ (residue g ls (b-of (cells g) e) (u-of (cells g) e) ++ drop (3 * cells g) e))
+      → Quiet g ls (take (cells g) (drop (2 * cells g) d))
+  lower-quiet p = rw (laid-t (after-residual g (laid (cells g) e (omega arith)) ls p)) (quiet-residue (b-of (cells g) e) (u-of (cells g) e))
 
   pub lowered-is : length d ≡ length e → length x ≡ length d
       → d ≡ u-of (cells g) e ++ (b-of (cells g) e ++ (residue g ls (b-of (cells g) e) (u-of (cells g) e) ++ drop (3 * cells g) e))
@@ -328,4 +364,4 @@ module _ (g h : Sides) (ls lc : List ℕ) (e d x : List Float) (z : TwoLevels g 
         long = k′ ∙ k;
       }
 
-pub ruleset lowering = (needs, lower-asks, lowered-is)
+pub ruleset lowering = (needs, lower-asks, lower-quiet, lowered-is)

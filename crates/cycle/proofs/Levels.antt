@@ -9,15 +9,19 @@ use borrow.Author.Tests.{lt-ltb, le-ltb}
 use borrow.Rule.Slice.PartMut.{midOf, putMid, same-len-mid}
 use mir.Syntax.{w64}
 use mir.Val.{Fits}
+use lib.Dec.{ltb}
 use lib.ListN.{length, getD, take, drop, length-append, length-drop}
 use lib.Seq.{take-at, drop-at, length-take-le, drop-drop, take-take, take-append-le}
 use lib.Ieee.{Float}
+use Rattle.laws.proofs.Lists.{length-tab}
 use Rattle.laws.proofs.Fill.{part-take}
 use Rattle.method.specs.declared.Sides.{Sides}
 use Rattle.method.specs.Cast.{cells, isAir}
 use Rattle.method.specs.Levels.{halved, coarse, inBand, restricted}
 use Rattle.method.specs.Cycle.{cycle, coarsest, downstroke, upstroke, corrected, residue, zeros}
 use Rattle.theory.specs.Levels.{sidesAt, labelsAt, cellsBefore}
+use Rattle.theory.specs.Quiet.{Quiet}
+use Rattle.theory.proofs.Quiet.{quiet-cycle, quiet-corrected}
 use Rattle.theory.proofs.Sides.{Fit}
 use Rattle.theory.proofs.Sizes.{fit-at}
 use Rattle.theory.proofs.Kept.{length-kept}
@@ -25,16 +29,18 @@ use Rattle.grid.proofs.Steps.{cells-most}
 use Rattle.levels.specs.declared.sides.Levels.{Levels}
 use Rattle.levels.specs.declared.lists.Lists.{Lists}
 use Rattle.levels.specs.Levels.{base, startIn, sidesIn}
-use Rattle.levels.specs.Lists.{smoothed, listOf}
-use Rattle.levels.specs.AllLists.{partIn, baseLabels, listAt}
+use Rattle.levels.specs.Lists.{smoothed, listOf, airOf}
+use Rattle.levels.specs.AllLists.{partIn, baseLabels, listAt, airAt}
 use Rattle.levels.proofs.Starts.{start-of, sides-of}
 use Rattle.levels.proofs.Calls.{before-up-to}
-use Rattle.smooth.specs.Fields.{u-of, b-of, Level}
+use Rattle.smooth.specs.Fields.{u-of, b-of, Level, Laid}
+use Rattle.smooth.proofs.Fields.{laid-u, laid-b, laid-follows}
 use Rattle.smooth.proofs.After.{inAir-length}
-use Rattle.transfer.specs.Transfer.{TwoLevels, correctedRoom}
-use Rattle.cycle.specs.Strokes.{entriesWhere, Ended, Put, rising, Lowered}
-use Rattle.cycle.specs.Rooms.{listFrom, fieldsFrom, Ready, sidesOf, cellsOf, labelsOf, cycleFrom, Cycled, correction, Corrected, LabelsAt, ListAt}
-use Rattle.cycle.proofs.Laws.{end-kept, end-less, end-lent, put-then, put-as, put-later, later, clear-put, part-first, lent-is, home-is}
+use Rattle.transfer.specs.Transfer.{TwoLevels, summed, correctedRoom}
+use Rattle.cycle.specs.Strokes.{entriesWhere, AirList, Ended, Put, rising, Lowered}
+use Rattle.cycle.specs.Rooms.{listFrom, airFrom, fieldsFrom, Ready, sidesOf, cellsOf, labelsOf, cycleFrom, Cycled, correction, Corrected, LabelsAt, ListAt, AirAt}
+use Rattle.cycle.proofs.Air.{air-entries}
+use Rattle.cycle.proofs.Laws.{end-kept, end-less, end-lent, put-then, put-as, put-later, later, clear-put, laid-long, part-first, lent-is, home-is}
 
 -- ---- a level's part of the rooms of bytes and words
 pub part-fit : (l : Levels) (k n : ℕ) (g : Sides) → LabelsAt l k n → g ≡ sidesIn l k → Fit g
@@ -60,7 +66,14 @@ list-is s k words =
     let r : getD (s .start) k 0 + getD (s .count) k 0 - getD (s .start) k 0 ≡ getD (s .count) k 0 = omega arith in
     ap (λ j. take j (drop (getD (s .start) k 0) words)) r
 
-pub ruleset parts = (needs, part-fit, part-end, part-fits, part-is, list-is)
+pub air-is : (s : Lists) (k : ℕ) (words : List ℕ)
+    → take (getD (s .start) k 0 + getD (s .air) k 0 - getD (s .start) k 0) (drop (getD (s .start) k 0) words) ≡ airFrom s k words
+unfolding airFrom
+air-is s k words =
+    let r : getD (s .start) k 0 + getD (s .air) k 0 - getD (s .start) k 0 ≡ getD (s .air) k 0 = omega arith in
+    ap (λ j. take j (drop (getD (s .start) k 0) words)) r
+
+pub ruleset parts = (needs, part-fit, part-end, part-fits, part-is, list-is, air-is)
 
 -- ---- the fields of the levels from k on: those of level k, and those of the levels from k + 1 on
 sides-next : (g : Sides) (k : ℕ) → sidesAt g (k + 1) ≡ halved (sidesAt g k)
@@ -105,7 +118,10 @@ module _ {l : Levels} {s : Lists} {count k : ℕ} {bytes words : List ℕ} {r : 
   labels-asked = record { below = six; fit = rw sides-here fit-here; inside = omega (arith, start-here, ap cells sides-here, end-here) }
 
   pub list-asked : ListAt s k (length words)
-  list-asked = record { below = six; inside = z .prepared .ends k (z .below) }
+  list-asked = record { below = six; inside = omega (arith, z .prepared .ends k (z .below), z .prepared .within k (z .below)) }
+
+  pub air-asked : AirAt s k (length words)
+  air-asked = record { below = six; inside = z .prepared .ends k (z .below) }
 
   labels-here : partIn l k bytes ≡ labelsOf l bytes k
   unfolding partIn
@@ -174,6 +190,17 @@ module _ {l : Levels} {s : Lists} {count k : ℕ} {bytes words : List ℕ} {r : 
         labelled = labelled-here;
         roomy = omega (arith, ap cells same-sides, room-own);
       }
+
+      pub all-air : {es : List ℕ} → es ≡ airFrom s k words → AirList g ls es
+      unfolding airAt
+      all-air ea =
+          air-entries g ls (ltb (k + 1) count) clear-fit labelled-here
+          (ea ∙ z .prepared .air k (z .below) ∙ ap₂ (airOf (ltb (k + 1) count)) (sym same-sides) (sym same-labels))
+
+      pub corrected-quiet : (e d : List Float) → Corrected l bytes count k e d → Quiet g ls (u-of (cells g) d)
+      corrected-quiet e d p =
+          let there : Quiet (sidesOf l k) (labelsOf l bytes k) (u-of (cellsOf l k) d) = rw (p .u) (quiet-corrected _ _) in
+          rw (same-sides, same-labels) there
 
       module _ {cs : List ℕ} (ec : cs ≡ listFrom s k words) where
         list-here : cs ≡ listAt (base l) (baseLabels l bytes) count k
@@ -251,6 +278,10 @@ corrected-length : (g : Sides) (ls : List ℕ) (u w : List Float) → length (co
 unfolding corrected
 corrected-length g ls u w = inAir-length g ls _
 
+summed-length : (g : Sides) (ls : List ℕ) (w : List Float) → length (summed g ls w) ≡ cells g
+unfolding summed
+summed-length g ls w = length-tab (cells g) _
+
 -- the next level's u, from the b that it was given, corrects this level's u
 module _ (g h : Sides) (ls : List ℕ) (m : ℕ) (f : List Float → List Float) (e d c x : List Float) (room : 3 * cells g + 3 * cells h ≤ length e) (two : 3 * cells h ≤ m) where
   correct-home : Lowered g h ls e d → Put (cells h) m (f (b-of (cells h) (drop (3 * cells g) d))) (drop (3 * cells g) d) c
@@ -267,26 +298,25 @@ module _ (g h : Sides) (ls : List ℕ) (m : ℕ) (f : List Float → List Float)
       let tail : drop (3 * cells g) (take (3 * cells g) d ++ c) ≡ c = drop-at top c (3 * n) top-long in
       let new : take (cells h) (drop (3 * cells g) (take (3 * cells g) d ++ c)) ≡ f (restricted g ls (residue g ls (b-of (cells g) e) (u-of (cells g) e))) =
       ap (take (cells h)) tail ∙ p .u ∙ ap f (low .below) in
-      let is : x ≡ corrected g ls (u-of (cells g) e) (f (restricted g ls (residue g ls (b-of (cells g) e) (u-of (cells g) e)))) ++ drop (cells g) (take (3 * cells g) d ++ c) =
-      q ∙ ap₂ (λ u w. corrected g ls u w ++ drop (cells g) (take (3 * cells g) d ++ c)) old new in
-      let rest : drop (cells g) x ≡ drop (cells g) (take (3 * cells g) d ++ c) = ap (drop n) is ∙ drop-at v (drop n y) n (corrected-length g ls _ _) in
+      let w = f (restricted g ls (residue g ls (b-of (cells g) e) (u-of (cells g) e))) in
+      let mid = take (cells g) (drop (cells g) (take (3 * cells g) d ++ c)) in
+      let sums = summed g ls (f (restricted g ls (residue g ls (b-of (cells g) e) (u-of (cells g) e)))) in
+      let laid-here : Laid (cells g) (corrected g ls (u-of (cells g) e) (f (restricted g ls (residue g ls (b-of (cells g) e) (u-of (cells g) e)))))
+      (take (cells g) (drop (cells g) (take (3 * cells g) d ++ c))) (summed g ls (f (restricted g ls (residue g ls (b-of (cells g) e) (u-of (cells g) e)))))
+      (drop (3 * cells g) (take (3 * cells g) d ++ c)) x = record {
+        is = q ∙ ap₂ (λ u w. corrected g ls u w ++ (take (cells g) (drop (cells g) (take (3 * cells g) d ++ c)) ++ (summed g ls w ++ drop (3 * cells g) (take (3 * cells g) d ++ c)))) old new;
+        u-length = corrected-length g ls _ _;
+        b-length = length-take-le n (drop n y) (omega (arith, length-drop n y, length-append top c, top-long));
+        t-length = summed-length g ls _;
+      } in
+      let rest : drop (3 * cells g) x ≡ drop (3 * cells g) (take (3 * cells g) d ++ c) = laid-follows laid-here in
       record {
-        u = ap (take n) is ∙ take-at v (drop n y) n (corrected-length g ls _ _);
-        b = ap (take n) rest ∙ part-first top c n n (omega arith) ∙ part-take n n (3 * n) d (omega arith) ∙ low .b;
+        u = laid-u laid-here;
+        b = laid-b laid-here ∙ part-first top c n n (omega arith) ∙ part-take n n (3 * n) d (omega arith) ∙ low .b;
         beyond =
-            later n (3 * n + m) x y (omega arith) rest ∙ sym (drop-drop m (3 * n) y) ∙ ap (drop m) tail ∙ p .beyond ∙ drop-drop m (3 * n) d
+            later (3 * n) (3 * n + m) x y (omega arith) rest ∙ sym (drop-drop m (3 * n) y) ∙ ap (drop m) tail ∙ p .beyond ∙ drop-drop m (3 * n) d
             ∙ later (3 * n + 3 * cells h) (3 * n + m) d e (omega arith) (low .beyond);
-        long = omega (
-          arith,
-          ap length is,
-          length-append v (drop n y),
-          corrected-length g ls (u-of (cells g) e) (f (restricted g ls (residue g ls (b-of (cells g) e) (u-of (cells g) e)))),
-          length-drop n y,
-          length-append top c,
-          p .long,
-          length-drop (3 * n) d,
-          low .long,
-        );
+        long = omega (arith, laid-long laid-here, length-drop (3 * n) y, length-append top c, top-long, p .long, length-drop (3 * n) d, low .long);
       }
 
 -- ---- a correction, with g and ls, h and lc what the code has of this level and the next
@@ -340,6 +370,19 @@ module _ {l : Levels} {s : Lists} {count k : ℕ} {bytes words : List ℕ} {r : 
         → 3 * cells g + 3 * cells h ≤ length (putMid (3 * length ls) (length d - 3 * length ls) d c)
     home-room d c q p = omega (arith, same-len-mid (3 * length ls) (length d - 3 * length ls) d c p, two-rooms)
 
+    -- the next level's u is +0 off air
+    pub home-quiet : (d c : List Float) → length d ≡ r → Cycled l bytes count (k + 1) (midOf (3 * length ls) (length d - 3 * length ls) d) c
+        → Quiet h lc (take (cells h) (drop (3 * cells g) (putMid (3 * length ls) (length d - 3 * length ls) d c)))
+    home-quiet d c q p =
+        let inside : 3 * length ls ≤ length d = lent-long d q in
+        let a : 3 * length ls ≡ 3 * cells g = omega (arith, two-levels .all) in
+        let here : drop (3 * cells g) (putMid (3 * length ls) (length d - 3 * length ls) d c) ≡ c =
+        ap (drop (3 * cells g)) (home-is (3 * length ls) d c inside) ∙ drop-at (take (3 * length ls) d) c (3 * cells g) (length-take-le (3 * length ls) d inside ∙ a) in
+        let u : take (cells h) (drop (3 * cells g) (putMid (3 * length ls) (length d - 3 * length ls) d c))
+        ≡ cycleFrom l bytes count (k + 1) (b-of (cellsOf l (k + 1)) (midOf (3 * length ls) (length d - 3 * length ls) d)) =
+        ap (take (cells h)) here ∙ ap (λ n. take n c) (ap cells h-is) ∙ p .u in
+        rw u (rw (h-is, lc-is) (quiet-cycle (k + 1) (count - 1 - (k + 1)) (sidesOf l (k + 1)) (labelsOf l bytes (k + 1)) _))
+
     pub corrected-is : (e d c x : List Float) → length e ≡ r → Lowered g h ls e d
         → Cycled l bytes count (k + 1) (midOf (3 * length ls) (length d - 3 * length ls) d) c
         → x ≡ correctedRoom g h ls (putMid (3 * length ls) (length d - 3 * length ls) d c) → Corrected l bytes count k e x
@@ -357,4 +400,4 @@ module _ {l : Levels} {s : Lists} {count k : ℕ} {bytes words : List ℕ} {r : 
         (correct-home (sidesOf l k) (sidesOf l (k + 1)) (labelsOf l bytes k) (fieldsFrom (base l) count (k + 1)) (cycleFrom l bytes count (k + 1)) e d c x
         (omega (arith, fields-two z more, z .roomy)) (omega (arith, fields-next (base l) count (k + 1) more)) low′ p′ o″)
 
-pub ruleset cycles = (needs, labels-asked, list-asked, clear-fit, clear-room, labels-asked-next, two-levels, two-rooms, lent-long, cycle-last)
+pub ruleset cycles = (needs, labels-asked, list-asked, air-asked, clear-fit, clear-room, labels-asked-next, two-levels, two-rooms, lent-long, cycle-last)

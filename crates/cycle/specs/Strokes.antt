@@ -15,10 +15,15 @@ use Rattle.theory.specs.Waves.{waves}
 use Rattle.grid.specs.Entries.{entryOf}
 use Rattle.smooth.specs.Fields.{u-of, b-of}
 use Rattle.smooth.specs.Sweeps.{sweptUp, sweptDown}
+use Rattle.smooth.specs.Entries.{AirEntries}
 
 -- the entries of the cells that pass a test, wave by wave
 abbrev pub entriesWhere : Sides → List ℕ → (ℕ → Bool) → List ℕ
 entriesWhere g ls at = map (entryOf g ls) (waves g at)
+
+-- the list holds the entry of each air cell
+abbrev pub AirList : Sides → List ℕ → List ℕ → Type 0
+AirList g ls es = AirEntries g ls (length ls) (g .nx) (g .nx * g .ny) es
 
 -- a room whose last element is zero and stands behind the first m
 pub record Ended (m : ℕ) (r : List Float) : Type 0 where

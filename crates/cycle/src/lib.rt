@@ -1,20 +1,22 @@
 // The V-cycle in binary64, in the lent rooms: each level works on u, b and t at the front of its part of the room, and lends
 // what follows to the next coarser level. The last element of all these rooms is the same one, and is zero.
 ghost use mathlib.Core.Path.{_≡_};
+ghost use mathlib.Core.List.{_++_};
 ghost use Prim.Native.Nat.{_+_, _-_, _*_, _≤_, _<_};
-ghost use lib.ListN.{length, set};
+ghost use lib.ListN.{length, set, drop};
 ghost use Rattle.laws.specs.Binary64.{+0};
 ghost use Rattle.method.specs.Cast.{cells, isAir};
 ghost use Rattle.method.specs.Levels.{value, inBand};
-ghost use Rattle.method.specs.Cycle.{sweeps, zeros, coarsest, downstroke};
+ghost use Rattle.method.specs.Cycle.{sweeps, zeros, jacobi, residue, coarsest, downstroke};
+ghost use Rattle.theory.specs.Quiet.{Quiet};
 ghost use Rattle.grid.specs.Entries.{cellsOf};
 ghost use Rattle.levels.specs.Levels.{base};
 ghost use Rattle.levels.specs.AllLists.{partIn};
 ghost use Rattle.smooth.specs.Fields.{u-of, b-of, Level};
 ghost use Rattle.smooth.specs.Entries.{EntryLevel};
 ghost use Rattle.transfer.specs.Transfer.{TwoLevels};
-ghost use Rattle.cycle.specs.Strokes.{entriesWhere, Ended, sweepTurn, sweptRoom, coarsestTurn, Put, rising, Lowered};
-ghost use Rattle.cycle.specs.Rooms.{listFrom, fieldsFrom, Ready, Cycled, Corrected, LabelsAt, ListAt};
+ghost use Rattle.cycle.specs.Strokes.{entriesWhere, AirList, Ended, sweepTurn, sweptRoom, coarsestTurn, Put, rising, Lowered};
+ghost use Rattle.cycle.specs.Rooms.{listFrom, airFrom, fieldsFrom, Ready, Cycled, Corrected, LabelsAt, ListAt, AirAt};
 use levels::lists::Lists;
 use levels::sides::Levels;
 use method::Sides;
@@ -96,38 +98,82 @@ fn coarsest(room: &mut [f64], labels: &[u8], list: &[u32], g: Sides)
     }
 }
 
+// Jacobi from u = 0, over all air.
+fn first_jacobi(room: &mut [f64], labels: &[u8], air: &[u32], g: Sides)
+    requires { ⌜ Level g (now labels) (now room) ⌝ }
+    requires { ⌜ AirList g (now labels) (now air) ⌝ }
+    requires { ⌜ u-of (cells g) (now room) ≡ zeros g ⌝ }
+    ensures { λ _. ⌜ now (room .exit) ≡ jacobi g (now (labels .entry)) (b-of (cells g) (now (room .entry))) (zeros g) ++ drop (cells g) (now (room .entry)) ⌝ }
+{
+    smooth::stencils::jacobi_first(room, air, labels.len());
+}
+
+// Jacobi from any u that is zero off air. The old u is left in t.
+fn jacobi(room: &mut [f64], labels: &[u8], air: &[u32], g: Sides)
+    requires { ⌜ Level g (now labels) (now room) ⌝ }
+    requires { ⌜ Ended (3 * cells g) (now room) ⌝ }
+    requires { ⌜ AirList g (now labels) (now air) ⌝ }
+    requires { ⌜ Quiet g (now labels) (u-of (cells g) (now room)) ⌝ }
+    ensures { λ _. ⌜ now (room .exit) ≡ jacobi g (now (labels .entry)) (b-of (cells g) (now (room .entry))) (u-of (cells g) (now (room .entry))) ++ (b-of (cells g) (now (room .entry)) ++ (u-of (cells g) (now (room .entry)) ++ drop (3 * cells g) (now (room .entry)))) ⌝ }
+{
+    let n = labels.len();
+    let nx = g.nx as usize;
+    let plane = nx * (g.ny as usize);
+    let zero = room.len() - 1;
+    smooth::stencils::jacobi(room, air, n, nx, plane, zero);
+}
+
+// b - A u into t, over all air.
+fn residual(room: &mut [f64], labels: &[u8], air: &[u32], g: Sides)
+    requires { ⌜ Level g (now labels) (now room) ⌝ }
+    requires { ⌜ Ended (3 * cells g) (now room) ⌝ }
+    requires { ⌜ AirList g (now labels) (now air) ⌝ }
+    ensures { λ _. ⌜ now (room .exit) ≡ u-of (cells g) (now (room .entry)) ++ (b-of (cells g) (now (room .entry)) ++ (residue g (now (labels .entry)) (b-of (cells g) (now (room .entry))) (u-of (cells g) (now (room .entry))) ++ drop (3 * cells g) (now (room .entry)))) ⌝ }
+{
+    let n = labels.len();
+    let nx = g.nx as usize;
+    let plane = nx * (g.ny as usize);
+    let zero = room.len() - 1;
+    smooth::stencils::residual(room, air, n, nx, plane, zero);
+}
+
 // A level's first half, from u = 0: one Jacobi, then ascending sweeps of the band.
-fn downstroke(room: &mut [f64], labels: &[u8], list: &[u32], g: Sides, k: usize)
+fn downstroke(room: &mut [f64], labels: &[u8], list: &[u32], air: &[u32], g: Sides, k: usize)
     requires { ⌜ k < 6 ⌝ }
     requires { ⌜ Level g (now labels) (now room) ⌝ }
     requires { ⌜ Ended (3 * cells g) (now room) ⌝ }
     requires { ⌜ now list ≡ entriesWhere g (now labels) (inBand g (now labels)) ⌝ }
+    requires { ⌜ AirList g (now labels) (now air) ⌝ }
     requires { ⌜ u-of (cells g) (now room) ≡ zeros g ⌝ }
     ensures { λ _. ⌜ Put (cells g) (3 * cells g) (downstroke k g (now (labels .entry)) (b-of (cells g) (now (room .entry)))) (now (room .entry)) (now (room .exit)) ⌝ }
 {
-    smooth::jacobi(room, labels, g);
+    first_jacobi(room, labels, air, g);
     sweep_times(room, labels, list, g, true, sweep_count(k));
 }
 
 // A level's second half, from the corrected u: descending sweeps of the band, then one Jacobi.
-fn upstroke(room: &mut [f64], labels: &[u8], list: &[u32], g: Sides, k: usize)
+fn upstroke(room: &mut [f64], labels: &[u8], list: &[u32], air: &[u32], g: Sides, k: usize)
     requires { ⌜ k < 6 ⌝ }
     requires { ⌜ Level g (now labels) (now room) ⌝ }
     requires { ⌜ Ended (3 * cells g) (now room) ⌝ }
     requires { ⌜ now list ≡ entriesWhere g (now labels) (inBand g (now labels)) ⌝ }
+    requires { ⌜ AirList g (now labels) (now air) ⌝ }
+    requires { ⌜ Quiet g (now labels) (u-of (cells g) (now room)) ⌝ }
     ensures { λ _. ⌜ Put (cells g) (3 * cells g) (rising k g (now (labels .entry)) (b-of (cells g) (now (room .entry))) (u-of (cells g) (now (room .entry)))) (now (room .entry)) (now (room .exit)) ⌝ }
 {
     sweep_times(room, labels, list, g, false, sweep_count(k));
-    smooth::jacobi(room, labels, g);
+    jacobi(room, labels, air, g);
 }
 
 // The residual, restricted: the coarser level's b.
-fn lower(room: &mut [f64], labels: &[u8], below: &[u8], g: Sides, h: Sides)
+fn lower(room: &mut [f64], labels: &[u8], air: &[u32], below: &[u8], g: Sides, h: Sides)
     requires { ⌜ TwoLevels g h (now labels) (now below) ⌝ }
     requires { ⌜ 3 * cells g + 3 * cells h ≤ length (now room) ⌝ }
+    requires { ⌜ Ended (3 * cells g) (now room) ⌝ }
+    requires { ⌜ AirList g (now labels) (now air) ⌝ }
     ensures { λ _. ⌜ Lowered g h (now (labels .entry)) (now (room .entry)) (now (room .exit)) ⌝ }
 {
-    smooth::residual(room, labels, g);
+    residual(room, labels, air, g);
     transfer::restriction::restrict(room, labels, below, g, h);
 }
 
@@ -141,13 +187,23 @@ fn level_labels(bytes: &[u8], l: Levels, k: usize) -> &[u8]
     &bytes[from..to]
 }
 
-// The list of level k.
+// What is swept of level k.
 fn level_list(words: &[u32], s: Lists, k: usize) -> &[u32]
     requires { ⌜ ListAt s k (length (now words)) ⌝ }
     ensures { λ r. ⌜ now r ≡ listFrom s k (now (words .entry)) ⌝ }
 {
     let from = s.start[k];
     let to = from + s.count[k];
+    &words[from..to]
+}
+
+// The list of all air of level k.
+pub fn level_air(words: &[u32], s: Lists, k: usize) -> &[u32]
+    requires { ⌜ AirAt s k (length (now words)) ⌝ }
+    ensures { λ r. ⌜ now r ≡ airFrom s k (now (words .entry)) ⌝ }
+{
+    let from = s.start[k];
+    let to = from + s.air[k];
     &words[from..to]
 }
 
@@ -168,11 +224,12 @@ pub fn cycle(
     let g = levels::sides::sides_at(l, k);
     let labels = level_labels(bytes, l, k);
     let list = level_list(words, s, k);
+    let air = level_air(words, s, k);
     smooth::clear_u(room, g);
     if k + 1 < count {
-        downstroke(room, labels, list, g, k);
+        downstroke(room, labels, list, air, g, k);
         coarse_correction(room, bytes, words, l, s, count, k);
-        upstroke(room, labels, list, g, k);
+        upstroke(room, labels, list, air, g, k);
     } else {
         coarsest(room, labels, list, g);
     }
@@ -197,7 +254,8 @@ fn coarse_correction(
     let h = levels::sides::sides_at(l, k + 1);
     let labels = level_labels(bytes, l, k);
     let below = level_labels(bytes, l, k + 1);
-    lower(room, labels, below, g, h);
+    let air = level_air(words, s, k);
+    lower(room, labels, air, below, g, h);
     let start = 3 * labels.len();
     cycle(&mut room[start..], bytes, words, l, s, count, k + 1);
     transfer::prolongation::correct(room, labels, below, g, h);

@@ -1,12 +1,12 @@
 -- Laws of module `lists`: the cells so far that pass a test stand in the room, wave by wave, and there is room for the next. Assumes nothing.
 use Prim.Native.Nat.{ℕ, zero, suc, _+_, _-_, _≤_, _<_}
 use mathlib.Core.Path.{_≡_, refl, sym, ap, ap₂, _∙_}
-use mathlib.Core.Bool.{Bool, true, false, cond, false≢true}
+use mathlib.Core.Bool.{Bool, true, false, cond, not, _&&_, false≢true}
 use mathlib.Core.List.{List, [], _∷_, _++_, map}
 use native.Mathlib.Numerals.{add-one}
 use native.Mathlib.Omega.{arith}
 use borrow.Author.Needs.{needs}
-use borrow.Author.Tests.{lt-ltb, le-ltb, le-leb, lt-leb}
+use borrow.Author.Tests.{eq-eqb, ne-eqb, lt-ltb, le-ltb, le-leb, lt-leb}
 use lib.Dec.{eqb}
 use lib.ListN.{length, set, length-append, length-map}
 use mir.Syntax.{w64}
@@ -25,7 +25,7 @@ use Rattle.grid.specs.Entries.{entryOf}
 use Rattle.grid.proofs.Steps.{cells-most}
 use Rattle.levels.specs.Rooms.{written}
 use Rattle.levels.specs.Other.{BandAsked}
-use Rattle.levels.specs.Lists.{smoothed, listOf, Placed, Listed}
+use Rattle.levels.specs.Lists.{smoothed, listOf, left, leftAt, leftOf, airOf, Placed, Listed, LevelListed}
 use Rattle.levels.proofs.Labelled.{next-fit}
 use Rattle.levels.proofs.Rooms.{written-none, length-written, written-on, set-written}
 
@@ -231,6 +231,112 @@ module _ (g : Sides) (ls e : List ℕ) (a : ℕ) (b : Bool) where
   unfolding listOf waves
   list-listed r s p = listed (entryOf g ls) e a (waves g (smoothed b g ls)) r s p
 
+-- ---- what is left
+module _ (band : Bool) (g : Sides) (ls : List ℕ) (c l : ℕ) (e : l ≡ labelAt ls c) where
+  pub left-other : (l ≡ 0 → ⊥) → false ≡ left band g ls c
+  unfolding left isAir
+  left-other h = let q : eqb (labelAt ls c) 0 ≡ false = ap (λ x. eqb x 0) (sym e) ∙ ne-eqb l 0 h in rw q
+
+  air-here : l ≡ 0 → isAir ls c ≡ true
+  unfolding isAir
+  air-here h = ap (λ x. eqb x 0) (sym e) ∙ eq-eqb l 0 h
+
+  pub left-band : {r : Bool} → l ≡ 0 → band ≡ true → r ≡ inBand g ls c → r ≡ true → false ≡ left band g ls c
+  unfolding left smoothed
+  left-band h b q t = rw (air-here h, b, ← q, t)
+
+  pub left-off : {r : Bool} → l ≡ 0 → band ≡ true → r ≡ inBand g ls c → r ≡ false → true ≡ left band g ls c
+  unfolding left smoothed
+  left-off h b q t = rw (air-here h, b, ← q, t)
+
+  pub left-none : l ≡ 0 → band ≡ false → false ≡ left band g ls c
+  unfolding left smoothed
+  left-none h b = rw (air-here h, b, air-here h)
+
+chosen-strung : (p : ℕ → Bool) (n : ℕ) → chosen p n ≡ strung (λ c. kept (p c) c) n
+unfolding chosen strung
+chosen-strung p zero = refl
+chosen-strung p (suc n) = ap (λ l. l ++ kept (p n) n) (chosen-strung p n)
+
+module _ (g : Sides) (ls e : List ℕ) (a : ℕ) (b : Bool) (h : a + length (chosen (left b g ls) (cells g)) ≤ length e) where
+  left-room : a + length (strung (leftAt b g ls) (cells g)) ≤ length e
+  left-room = rw chosen-strung at h
+
+  module _ (c r : ℕ) (s : List ℕ) (u : Placed (entryOf g ls) e a (strung (leftAt b g ls) c) r s) where
+    pub left-more : (r′ : ℕ) (s′ : List ℕ) → Placed (entryOf g ls) s r (leftAt b g ls c) r′ s′ → Placed (entryOf g ls) e a (strung (leftAt b g ls) (c + 1)) r′ s′
+    left-more r′ s′ v = strung-more (entryOf g ls) (leftAt b g ls) e a (cells g) left-room c r s u r′ s′ v
+
+    module _ (n : ℕ) (q : n ≡ cells g) where
+      pub left-next : c < n → r + length (leftAt b g ls c) ≤ length s
+      left-next l = strung-room (entryOf g ls) (leftAt b g ls) e a (cells g) left-room c r s u (omega arith)
+
+      pub left-same : c ≤ n → length s ≡ length e
+      left-same l = strung-same (entryOf g ls) (leftAt b g ls) e a (cells g) left-room c r s u (omega arith)
+
+      pub left-listed : c ≤ n → n ≤ c → Listed e a (leftOf b g ls) (r - a) s
+      unfolding leftOf
+      left-listed k l =
+          let o : c ≡ cells g = omega arith in
+          let w : Placed (entryOf g ls) e a (strung (leftAt b g ls) (cells g)) r s = rw o at u in
+          listed (entryOf g ls) e a (chosen (left b g ls) (cells g)) r s (rw chosen-strung w)
+
+pub ruleset on-left = (needs, strung-none, left-next, left-same, left-more, left-listed)
+
+-- ---- all air: what is swept and what is left are no more than the air
+chosen-both : (p q : ℕ → Bool) → Within p q → (n : ℕ) → length (chosen p n) + length (chosen (λ c. q c && not (p c)) n) ≤ length (chosen q n)
+unfolding chosen
+chosen-both p q f zero = omega arith
+chosen-both p q f (suc n) =
+    omega (arith, chosen-suc p n, chosen-suc q n, chosen-suc (λ c. q c && not (p c)) n, chosen-both p q f n, go (p n) (q n) (f .at n))
+  where
+    go : (a b : Bool) → (a ≡ true → b ≡ true) → cond a 1 0 + cond (b && not a) 1 0 ≤ cond b 1 0
+    go true true h = omega arith
+    go true false h = absurd (false≢true (h refl))
+    go false true h = omega arith
+    go false false h = omega arith
+
+module _ (b : Bool) (g : Sides) (ls : List ℕ) where
+  both-le : length (listOf b g ls) + length (chosen (left b g ls) (cells g)) ≤ interior g ls
+  unfolding listOf interior judged left
+  both-le = omega (
+    arith,
+    length-map (waves g (smoothed b g ls)) (entryOf g ls),
+    waves-length g (smoothed b g ls),
+    chosen-both (smoothed b g ls) (isAir ls) (smoothed-air b g ls) (cells g),
+    chosen-count (isAir ls) (cells g),
+  )
+
+  left-long : length (leftOf b g ls) ≡ length (chosen (left b g ls) (cells g))
+  unfolding leftOf
+  left-long = length-map (chosen (left b g ls) (cells g)) (entryOf g ls)
+
+  pub air-le : length (airOf b g ls) ≤ interior g ls
+  air-le = omega (arith, length-append (listOf b g ls) (leftOf b g ls), left-long, both-le)
+
+  module _ (a r : ℕ) (e s : List ℕ) (h : a + interior g ls ≤ length e) (u : Listed e a (listOf b g ls) r s) where
+    pub rest-fits : Fits w64 (length e) → Fits w64 (a + r)
+    rest-fits f = omega (arith, u .count, both-le)
+
+    pub rest-room : length s ≡ length e → a + r + length (chosen (left b g ls) (cells g)) ≤ length s
+    rest-room k = omega (arith, u .count, both-le)
+
+    module _ (q : ℕ) (t : List ℕ) (v : Listed s (a + r) (leftOf b g ls) q t) where
+      pub air-count : r + q ≤ length e
+      air-count = omega (arith, u .count, v .count, left-long, both-le)
+
+      pub air-listed : LevelListed e a (listOf b g ls) (airOf b g ls) (record { swept = r; air = r + q }) t
+      air-listed =
+          let long : r + q ≡ length (airOf b g ls) = omega (arith, u .count, v .count, length-append (listOf b g ls) (leftOf b g ls)) in
+          record {
+            count = u .count;
+            whole = long;
+            room =
+                v .room ∙ ap₂ (λ x k. written x (a + k) (leftOf b g ls)) (u .room) (u .count)
+                ∙ written-on e a (listOf b g ls) (omega arith) (leftOf b g ls);
+          }
+
+pub ruleset airs = (needs, rest-fits, rest-room, air-listed)
+
 -- ---- what the calls ask
 pub band-asked : (g h : Sides) (n m c : ℕ) → Fit g → h ≡ halved g → n ≡ cells g → m ≡ cells h → c < n → BandAsked g h n m c
 band-asked g h n m c z p q r l = record { fine = z; next = p; count = q; coarse-count = r; inside = omega arith }
@@ -253,3 +359,5 @@ pub ruleset keeps-either = (needs, kept-same, placed-same, next-fit, band-asked,
 pub ruleset on-waves = (needs, strung-none, strung-same, strung-more, strung-end, early-placed, late-placed, wave-in, wave-placed, smoothed-room, cell-room, line-room)
 
 pub ruleset on-lists = (needs, strung-none, strung-same, strung-end, wave-room, list-room, list-more, list-listed)
+
+pub ruleset lefts = (needs, next-fit, band-asked, left-other, left-band, left-off, left-none)

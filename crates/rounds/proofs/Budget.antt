@@ -22,13 +22,14 @@ use Rattle.method.specs.Answers.{accepted, unfinished}
 use Rattle.method.specs.Levels.{value, inAir}
 use Rattle.method.specs.Cycle.{applied, zeros}
 use Rattle.method.specs.Rounds.{State, Turn, stalled, turned, End, solved, failed, passes, rounded, step, scalars, moved, round, rightSide, pass, fail, run, start}
+use Rattle.theory.proofs.Quiet.{quiet-zeros, quiet-right}
 use Rattle.smooth.proofs.After.{inAir-length, zeros-length}
 use Rattle.rounds.specs.declared.Plan.{Plan}
 use Rattle.trial.specs.declared.Tested.{Tested}
 use Rattle.trial.specs.declared.Tested.the-variants.{Passed, Failed}
 use Rattle.trial.specs.Trial.{tested}
 use Rattle.fields.specs.Fields.{Held, x-of, p-of, z-of, r-of, t-of}
-use Rattle.rounds.specs.Rounds.{castOf, endedBy, stateOf, zNew, rhoNew, betaNew, pNew, scalarsNew, below, Scaled, Advanced, Ready, endOf, RunOf, EndOf}
+use Rattle.rounds.specs.Rounds.{castOf, endedBy, Calm, stateOf, zNew, rhoNew, betaNew, pNew, scalarsNew, below, Scaled, Advanced, Ready, endOf, RunOf, EndOf}
 use Rattle.rounds.proofs.Turns.{turns, held, air-same, air-value}
 
 -- ---- a round, piece by piece
@@ -209,10 +210,18 @@ module _ (g : Sides) (ls : List ℕ) (vs : List ℤ) (e m : List Float) (h : Hel
       let r-new : r-of (cells g) m ≡ rightSide (castOf g ls vs) = ap (take (cells g)) after-z ∙ take-at (rightSide (castOf g ls vs)) (drop (4 * cells g) e) (cells g) r-long in
       rw (x-none, p-none, r-new) refl
 
+  pub start-calm : Calm g ls m
+  unfolding rightSide
+  start-calm =
+      let x-none : x-of (cells g) m ≡ zeros g = ap (take (cells g)) q ∙ take-at (zeros g) (zeros g ++ (z-of (cells g) e ++ tail)) (cells g) (zeros-length g) in
+      let p-none : p-of (cells g) m ≡ zeros g = ap (take (cells g)) after-x ∙ take-at (zeros g) (z-of (cells g) e ++ tail) (cells g) (zeros-length g) in
+      let r-new : r-of (cells g) m ≡ rightSide (castOf g ls vs) = ap (take (cells g)) after-z ∙ take-at (rightSide (castOf g ls vs)) (drop (4 * cells g) e) (cells g) r-long in
+      record { x = rw x-none quiet-zeros; p = rw p-none quiet-zeros; r = rw r-new (quiet-right (castOf g ls vs)) }
+
   pub end-is : (t : Settings) (i d : ℕ) (a : Answer) (s : List Float) → RunOf g ls vs t i d m a s → EndOf g ls vs t i d a s
   end-is t i d a s y = record { is = ap (run (castOf g ls vs) t i d (t .rounds)) (sym start-is) ∙ y .is }
 
-pub ruleset budget = (turns, left-none, left-pass, left-end, left-stall, left-more, held-ready, same-ready, end-is)
+pub ruleset budget = (turns, start-calm, left-none, left-pass, left-end, left-stall, left-more, held-ready, same-ready, end-is)
 
 -- ---- THE PROMISE IS ONE RESULT: the answer, and the pressures where it is 0
 by-number : Answer → List ℤ → ℕ → End

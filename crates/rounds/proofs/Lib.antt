@@ -2,4 +2,5 @@
 pub mod Steps
 pub mod Parts
 pub mod Turns
+pub mod Calm
 pub mod Budget

@@ -22,19 +22,23 @@ use Rattle.method.specs.Levels.{value, inAir}
 use Rattle.method.specs.Cycle.{applied, cycle}
 use Rattle.method.specs.Rounds.{dot, betaOf, direction, scalars}
 use Rattle.theory.specs.Levels.{sidesAt, labelsAt}
+use Rattle.theory.specs.Quiet.{Quiet}
 use Rattle.theory.proofs.Sides.{Fit}
 use Rattle.levels.specs.Levels.{base}
 use Rattle.smooth.specs.Fields.{u-of, b-of}
+use Rattle.smooth.specs.Entries.{AllRead}
+use Rattle.smooth.proofs.EntryLaws.{all-read}
 use Rattle.smooth.proofs.After.{inAir-length}
-use Rattle.cycle.specs.Strokes.{Ended, Put}
-use Rattle.cycle.specs.Rooms.{Ready, Cycled, fieldsFrom}
+use Rattle.cycle.specs.Strokes.{AirList, Ended, Put}
+use Rattle.cycle.specs.Rooms.{Ready, Cycled, fieldsFrom, airFrom, AirAt}
 use Rattle.cycle.proofs.Laws.{part-first, lent-is, home-is, end-lent}
-use Rattle.cycle.proofs.Calls.{ready-first, fields-most, zero-end, zero-part}
+use Rattle.cycle.proofs.Calls.{ready-first, first-air-asked, first-air, fields-most, zero-end, zero-part}
 use Rattle.rounds.specs.declared.Plan.{Plan}
 use Rattle.trial.specs.declared.Tested.{Tested}
 use Rattle.trial.specs.Trial.{tested}
+use Rattle.fields.specs.Entries.{Aimed}
 use Rattle.fields.specs.Fields.{Held, x-of, p-of, z-of, r-of, t-of}
-use Rattle.rounds.specs.Rounds.{stateOf, zNew, rhoNew, betaNew, pNew, scalarsNew, below, planSides, planLabels, Prepared, Planned, Drawn, Rho, Sigma, Scaled, Advanced}
+use Rattle.rounds.specs.Rounds.{stateOf, zNew, rhoNew, betaNew, pNew, scalarsNew, below, planSides, planLabels, Prepared, Planned, Calm, Drawn, Rho, Applied, Sigma, Scaled, Advanced}
 use Rattle.rounds.proofs.Parts.{put-length, put-here, put-before, put-after}
 
 -- ---- what is read in air alone
@@ -80,6 +84,15 @@ inner-is g ls e a b v h q =
     let m : a + length ls - a ≡ cells g = omega arith in
     let k : b + length ls - b ≡ cells g = omega arith in
     q ∙ ap₂ (λ i j. dot g ls (value (take i (drop a e))) (value (take j (drop b e)))) m k
+
+pub inner-done : (g : Sides) (ls : List ℕ) (e : List Float) (a b : ℕ) (v : Float) → Held g ls e → Quiet g ls (take (cells g) (drop a e)) → Quiet g ls (take (cells g) (drop b e))
+    → ((h : Sides) (ms : List ℕ) → length ls ≡ cells h → Quiet h ms (take (a + length ls - a) (drop a e)) → Quiet h ms (take (b + length ls - b) (drop b e))
+    → v ≡ dot h ms (value (take (a + length ls - a) (drop a e))) (value (take (b + length ls - b) (drop b e))))
+    → v ≡ dot g ls (value (take (cells g) (drop a e))) (value (take (cells g) (drop b e)))
+inner-done g ls e a b v z qa qb f =
+    let m : a + length ls - a ≡ cells g = omega (arith, z .labelled) in
+    let k : b + length ls - b ≡ cells g = omega (arith, z .labelled) in
+    inner-is g ls e a b v (z .labelled) (f g ls (z .labelled) (rw m qa) (rw k qb))
 
 pub test-is : (g : Sides) (ls : List ℕ) (k : Cast) (t : Settings) (e : List Float) (v : Tested) → length ls ≡ cells g
     → v ≡ tested k t (take (0 * length ls + length ls - 0 * length ls) (drop (0 * length ls) e)) → v ≡ tested k t (x-of (cells g) e)
@@ -143,59 +156,88 @@ pub rho-is : (plan : Plan) (bytes words : List ℕ) (g : Sides) (ls : List ℕ) 
     → Rho g ls (below plan) e rho s
 rho-is plan bytes words g ls e s rho z d q = record { drawn = rw (z .sides, z .labels, z .labelled) at d; is = rw (z .labelled) at q }
 
--- ---- t and sigma
-module _ (g : Sides) (ls : List ℕ) (e s : List Float) (h : Held g ls e)
-    (q : s ≡ take (4 * cells g) e ++ (inAir g ls (applied g ls (p-of (cells g) e)) ++ drop (5 * cells g) e)) where
-  t-put : s ≡ take (4 * cells g) e ++ (inAir g ls (applied g ls (p-of (cells g) e)) ++ drop (4 * cells g + cells g) e)
-  t-put = let five : 5 * cells g ≡ 4 * cells g + cells g = omega arith in q ∙ ap (λ j. take (4 * cells g) e ++ (inAir g ls (applied g ls (p-of (cells g) e)) ++ drop j e)) five
+-- ---- t: the list of all air, the zero at the room's end, and what the kernel leaves
+module _ {plan : Plan} {bytes words : List ℕ} {g : Sides} {ls : List ℕ} (e : List Float) (z : Planned plan bytes words g ls (length e)) where
+  pub air-asked : AirAt (plan .lists) 0 (length words)
+  air-asked = first-air-asked (plan .levels) (plan .lists) (plan .count) bytes words (z .prepared .levels)
 
-  pub sigma-is : (sigma : Float) → sigma ≡ dot g ls (value (take (cells g) (drop (length ls) s))) (value (take (cells g) (drop (4 * length ls) s))) → Sigma g ls e sigma s
-  sigma-is sigma w =
-      let n = cells g in
-      let v = inAir g ls (applied g ls (p-of (cells g) e)) in
-      let long : length (inAir g ls (applied g ls (p-of (cells g) e))) ≡ cells g = inAir-length g ls _ in
-      let fits : 4 * cells g + cells g ≤ length e = omega (arith, h .roomy) in
-      let p-same : p-of (cells g) s ≡ p-of (cells g) e = put-before (4 * n) n v e s long fits t-put n n (omega arith) in
-      let t-new : t-of (cells g) s ≡ inAir g ls (applied g ls (p-of (cells g) e)) = put-here (4 * n) n v e s long fits t-put in
-      let w′ : sigma ≡ dot g ls (value (p-of (cells g) s)) (value (t-of (cells g) s)) = rw (h .labelled) at w in
-      record {
-        x = put-before (4 * n) n v e s long fits t-put 0 n (omega arith);
-        p = p-same;
-        r = put-before (4 * n) n v e s long fits t-put (3 * n) n (omega arith);
-        t = t-new;
-        is = w′ ∙ ap₂ (λ a b. dot g ls (value a) (value b)) p-same t-new ∙ dot-same g ls _ _ _ (air-value g ls (applied g ls (p-of (cells g) e)));
-        long = put-length (4 * n) n v e s long fits t-put;
-      }
+  pub air-listed : {es : List ℕ} → es ≡ airFrom (plan .lists) 0 words → AirList g ls es
+  air-listed q =
+      let len : length (planLabels plan bytes) ≡ cells (planSides plan) = ap length (z .labels) ∙ z .labelled ∙ ap cells (sym (z .sides)) in
+      let there = first-air (plan .levels) (plan .lists) (plan .count) bytes words (z .prepared .levels) len q in
+      rw (z .sides, z .labels) at there
+
+  module _ {d : List Float} (q : d ≡ set e (length e - 1) +0) where
+    zero-there : Ended (5 * cells g) d
+    zero-there = rw q (zero-end e (5 * cells g) (omega (arith, z .prepared .roomy)))
+
+    d-long : length d ≡ length e
+    d-long = ap length q ∙ length-set e (length e - 1) +0
+
+    pub zero-read : value d (length e - 1) ≡ +0
+    zero-read = let last : length e - 1 ≡ length d - 1 = omega (arith, d-long) in ap (value d) last ∙ zero-there .none
+
+    pub air-read : {es : List ℕ} → es ≡ airFrom (plan .lists) 0 words → AllRead (length ls) (g .nx) (g .nx * g .ny) (length e - 1) (length d) es
+    air-read {es} w =
+        all-read g ls (length ls) (g .nx) (g .nx * g .ny) (length e - 1) (length d) es (air-listed w .entries)
+        (omega (arith, z .prepared .roomy, z .labelled)) (omega (arith, z .prepared .roomy, d-long))
+
+    pub five-before : 5 * length ls ≤ length e - 1
+    five-before = omega (arith, z .prepared .roomy, z .labelled)
+
+    same-part : (k : ℕ) → k ≤ 4 * cells g → take (cells g) (drop k d) ≡ take (cells g) (drop k e)
+    same-part k h = ap (λ s. take (cells g) (drop k s)) q ∙ zero-part e k (cells g) (omega (arith, z .prepared .roomy))
+
+    pub applied-is : {s : List Float} → s ≡ take (4 * cells g) d ++ (inAir g ls (applied g ls (p-of (cells g) d)) ++ drop (5 * cells g) d) → Applied g ls e s
+    applied-is {s} w =
+        let n = cells g in
+        let v = inAir g ls (applied g ls (p-of (cells g) d)) in
+        let long : length (inAir g ls (applied g ls (p-of (cells g) d))) ≡ cells g = inAir-length g ls _ in
+        let fits : 4 * cells g + cells g ≤ length d = omega (arith, z .prepared .roomy, d-long) in
+        let five : 5 * cells g ≡ 4 * cells g + cells g = omega arith in
+        let put : s ≡ take (4 * cells g) d ++ (inAir g ls (applied g ls (p-of (cells g) d)) ++ drop (4 * cells g + cells g) d) =
+        w ∙ ap (λ j. take (4 * cells g) d ++ (inAir g ls (applied g ls (p-of (cells g) d)) ++ drop j d)) five in
+        record {
+          x = put-before (4 * n) n v d s long fits put 0 n (omega arith) ∙ same-part 0 (omega arith);
+          p = put-before (4 * n) n v d s long fits put n n (omega arith) ∙ same-part n (omega arith);
+          r = put-before (4 * n) n v d s long fits put (3 * n) n (omega arith) ∙ same-part (3 * n) (omega arith);
+          t = put-here (4 * n) n v d s long fits put ∙ ap (λ p. inAir g ls (applied g ls p)) (same-part n (omega arith));
+          long = put-length (4 * n) n v d s long fits put ∙ d-long;
+        }
+
+-- ---- sigma
+pub sigma-is : (g : Sides) (ls : List ℕ) (e s : List Float) (sigma : Float) → length ls ≡ cells g → Applied g ls e s
+    → sigma ≡ dot g ls (value (take (cells g) (drop (length ls) s))) (value (take (cells g) (drop (4 * length ls) s))) → Sigma g ls e sigma s
+sigma-is g ls e s sigma len a w =
+    let w′ : sigma ≡ dot g ls (value (p-of (cells g) s)) (value (t-of (cells g) s)) = rw len at w in
+    record {
+      x = a .x;
+      p = a .p;
+      r = a .r;
+      t = a .t;
+      is = w′ ∙ ap₂ (λ i j. dot g ls (value i) (value j)) (a .p) (a .t) ∙ dot-same g ls _ _ _ (air-value g ls (applied g ls (p-of (cells g) e)));
+      long = a .long;
+    }
 
 -- ---- the scalars of a round
 module _ (plan : Plan) (bytes words : List ℕ) (g : Sides) (ls : List ℕ) (done : ℕ) (old rho beta sigma : Float) (e m k s : List Float) (z : Planned plan bytes words g ls (length e)) where
-  pub scaled-is : Rho g ls (below plan) e rho m → beta ≡ betaOf done rho old
-      → k ≡ take (cells g) m ++ (inAir g ls (λ c. direction done beta (value (z-of (cells g) m) c) (value (p-of (cells g) m) c)) ++ drop (2 * cells g) m)
+  pub scaled-is : Rho g ls (below plan) e rho m → beta ≡ betaOf done rho old → Aimed g ls done beta m k
       → Sigma g ls k sigma s → Scaled g ls (below plan) done old e (record { rho = rho; sigma = sigma; alpha = rho ⊘ sigma; beta = beta }) s
   unfolding zNew rhoNew betaNew pNew scalarsNew scalars
   scaled-is a b c f =
-      let n = cells g in
-      let st = stateOf (cells g) done old e in
-      let v = inAir g ls (λ c. direction done beta (value (z-of (cells g) m) c) (value (p-of (cells g) m) c)) in
-      let long : length (inAir g ls (λ c. direction done beta (value (z-of (cells g) m) c) (value (p-of (cells g) m) c))) ≡ cells g = inAir-length g ls _ in
-      let fits : cells g + cells g ≤ length m = omega (arith, a .drawn .long, z .prepared .roomy) in
-      let two : 2 * cells g ≡ cells g + cells g = omega arith in
-      let c′ : k ≡ take (cells g) m ++ (inAir g ls (λ c. direction done beta (value (z-of (cells g) m) c) (value (p-of (cells g) m) c)) ++ drop (cells g + cells g) m) =
-      c ∙ ap (λ j. take n m ++ (v ++ drop j m)) two in
       let rho-new : rho ≡ rhoNew g ls (below plan) (stateOf (cells g) done old e) = a .is ∙ ap₂ (λ i j. dot g ls (value i) (value j)) (a .drawn .z) (a .drawn .r) in
       let beta-new : beta ≡ betaNew g ls (below plan) (stateOf (cells g) done old e) = b ∙ ap (λ i. betaOf done i old) rho-new in
-      let p-here : p-of (cells g) k ≡ inAir g ls (λ c. direction done beta (value (z-of (cells g) m) c) (value (p-of (cells g) m) c)) = put-here n n v m k long fits c′ in
       let p-new : p-of (cells g) k ≡ pNew g ls (below plan) (stateOf (cells g) done old e) =
-      p-here ∙ ap₂ (λ i j. inAir g ls (λ c. direction done i (value j c) (value (p-of (cells g) m) c))) beta-new (a .drawn .z)
+      c .p ∙ ap₂ (λ i j. inAir g ls (λ c. direction done i (value j c) (value (p-of (cells g) m) c))) beta-new (a .drawn .z)
       ∙ ap (λ j. inAir g ls (λ c. direction done (betaNew g ls (below plan) (stateOf (cells g) done old e)) (value (zNew g ls (below plan) (stateOf (cells g) done old e)) c) (value j c))) (a .drawn .p) in
       let sigma-new : sigma ≡ scalarsNew g ls (below plan) (stateOf (cells g) done old e) .sigma = f .is ∙ ap (λ j. dot g ls (value j) (applied g ls j)) p-new in
       record {
-        x = f .x ∙ put-before n n v m k long fits c′ 0 n (omega arith) ∙ a .drawn .x;
+        x = f .x ∙ c .x ∙ a .drawn .x;
         p = f .p ∙ p-new;
-        r = f .r ∙ ap (take n) (put-after n n v m k long fits c′ (3 * n) (omega arith)) ∙ a .drawn .r;
+        r = f .r ∙ c .r ∙ a .drawn .r;
         t = f .t ∙ ap (λ j. inAir g ls (applied g ls j)) p-new;
         is = rw (rho-new, beta-new, sigma-new) refl;
-        long = f .long ∙ put-length n n v m k long fits c′ ∙ a .drawn .long;
+        long = f .long ∙ c .long ∙ a .drawn .long;
       }
 
 -- ---- x and r
@@ -225,5 +267,25 @@ module _ (g : Sides) (ls : List ℕ) (alpha : Float) (e m s : List Float) (h : H
             ∙ ap₂ (λ i j. inAir g ls (λ c. value (take (cells g) i) c ⊖ alpha ⊗ value (take (cells g) j) c)) (late (3 * n) (omega arith)) (late (4 * n) (omega arith));
         long = put-length (3 * n) n w m s w-long w-fits b′ ∙ m-long;
       }
+
+-- the same from what the kernels promise of every cast whose fields are zero off air
+module _ (g : Sides) (ls : List ℕ) (alpha : Float) (e m s : List Float) (h : Held g ls e) (q : Calm g ls e) (t : Quiet g ls (t-of (cells g) e)) where
+  pub advanced-done : ((k : Sides) (ms : List ℕ) → length ls ≡ cells k → Quiet k ms (x-of (cells k) e) → Quiet k ms (p-of (cells k) e)
+      → m ≡ inAir k ms (λ c. value (x-of (cells k) e) c ⊕ alpha ⊗ value (p-of (cells k) e) c) ++ drop (cells k) e)
+      → ((k : Sides) (ms : List ℕ) → length ls ≡ cells k → Quiet k ms (r-of (cells k) m) → Quiet k ms (t-of (cells k) m)
+      → s ≡ take (3 * cells k) m ++ (inAir k ms (λ c. value (r-of (cells k) m) c ⊖ alpha ⊗ value (t-of (cells k) m) c) ++ drop (4 * cells k) m))
+      → Advanced g ls alpha e s
+  advanced-done f w =
+      let n = cells g in
+      let v = inAir g ls (λ c. value (x-of (cells g) e) c ⊕ alpha ⊗ value (p-of (cells g) e) c) in
+      let a : m ≡ inAir g ls (λ c. value (x-of (cells g) e) c ⊕ alpha ⊗ value (p-of (cells g) e) c) ++ drop (cells g) e = f g ls (h .labelled) (q .x) (q .p) in
+      let none : cells g ≡ 0 + cells g = omega arith in
+      let a′ : m ≡ take 0 e ++ (inAir g ls (λ c. value (x-of (cells g) e) c ⊕ alpha ⊗ value (p-of (cells g) e) c) ++ drop (0 + cells g) e) = a ∙ ap (λ j. v ++ drop j e) none in
+      let long : length (inAir g ls (λ c. value (x-of (cells g) e) c ⊕ alpha ⊗ value (p-of (cells g) e) c)) ≡ cells g = inAir-length g ls _ in
+      let fits : 0 + cells g ≤ length e = omega (arith, h .roomy) in
+      let late : (k : ℕ) → cells g ≤ k → drop k m ≡ drop k e = λ k l. put-after 0 n v e m long fits a′ k (omega arith) in
+      let r-same : r-of (cells g) m ≡ r-of (cells g) e = ap (take n) (late (3 * n) (omega arith)) in
+      let t-same : t-of (cells g) m ≡ t-of (cells g) e = ap (take n) (late (4 * n) (omega arith)) in
+      advanced-is g ls alpha e m s h a (w g ls (h .labelled) (rw r-same (q .r)) (rw t-same t))
 
 pub ruleset turns = (needs, fit-planned, held, held-after, same-planned, prepared-here, inner-is, test-is, cycle-ready, cycle-end, drawn-is, rho-is, sigma-is, scaled-is, advanced-is)

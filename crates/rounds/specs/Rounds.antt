@@ -14,6 +14,7 @@ use Rattle.method.specs.Cast.{Cast, cells}
 use Rattle.method.specs.Levels.{value, inAir}
 use Rattle.method.specs.Cycle.{applied, cycle}
 use Rattle.method.specs.Rounds.{State, End, solved, failed, dot, betaOf, direction, scalars, rounded, run, start}
+use Rattle.theory.specs.Quiet.{Quiet}
 use Rattle.theory.proofs.Sides.{Fit}
 use Rattle.levels.specs.Levels.{base}
 use Rattle.levels.specs.AllLists.{baseLabels}
@@ -27,6 +28,12 @@ castOf g ls vs = record { sides = g; labels = ls; values = vs }
 -- the state that a room holds after so many rounds, with the last round's rho
 abbrev pub stateOf : ℕ → ℕ → Float → List Float → State
 stateOf n done rho room = record { rounds = done; x = x-of n room; r = r-of n room; p = p-of n room; rho = rho }
+
+-- x, p and r are zero off air, so that no kernel of a round has to read a label
+pub record Calm (g : Sides) (ls : List ℕ) (room : List Float) : Type 0 where
+  pub x : Quiet g ls (x-of (cells g) room)
+  pub p : Quiet g ls (p-of (cells g) room)
+  pub r : Quiet g ls (r-of (cells g) room)
 
 -- ---- what a round is made of: method's `round`, piece by piece
 module _ (g : Sides) (ls : List ℕ) (below : ℕ) (st : State) where
@@ -81,6 +88,14 @@ pub record Drawn (g : Sides) (ls : List ℕ) (low n : ℕ) (e s : List Float) : 
 pub record Rho (g : Sides) (ls : List ℕ) (low : ℕ) (e : List Float) (rho : Float) (s : List Float) : Type 0 where
   pub drawn : Drawn g ls low (cells g) e s
   pub is : rho ≡ dot g ls (value (z-of (cells g) s)) (value (r-of (cells g) s))
+
+-- t is A p
+pub record Applied (g : Sides) (ls : List ℕ) (e s : List Float) : Type 0 where
+  pub x : x-of (cells g) s ≡ x-of (cells g) e
+  pub p : p-of (cells g) s ≡ p-of (cells g) e
+  pub r : r-of (cells g) s ≡ r-of (cells g) e
+  pub t : t-of (cells g) s ≡ inAir g ls (applied g ls (p-of (cells g) e))
+  pub long : length s ≡ length e
 
 -- t is A p, and sigma = p·A p
 pub record Sigma (g : Sides) (ls : List ℕ) (e : List Float) (sigma : Float) (s : List Float) : Type 0 where

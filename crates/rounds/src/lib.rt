@@ -5,10 +5,13 @@ mod scalars;
 ghost use mathlib.Core.Path.{_≡_};
 ghost use Prim.Native.Nat.{_*_, _≤_, _<_};
 ghost use lib.ListN.{length};
+ghost use mathlib.Core.Bool.{true};
 ghost use Rattle.method.specs.Cast.{cells};
-ghost use Rattle.fields.specs.Fields.{Held, x-of};
+ghost use Rattle.method.specs.Rounds.{finite};
+ghost use Rattle.theory.specs.Quiet.{Quiet};
+ghost use Rattle.fields.specs.Fields.{Held, x-of, t-of};
 ghost use Rattle.trial.specs.Trial.{tested};
-ghost use Rattle.rounds.specs.Rounds.{castOf, endedBy, Advanced, Ready, RunOf, EndOf};
+ghost use Rattle.rounds.specs.Rounds.{castOf, endedBy, Calm, Advanced, Ready, RunOf, EndOf};
 use levels::lists::Lists;
 use levels::sides::Levels;
 use method::Answer;
@@ -58,10 +61,14 @@ fn test_x(
 // x + alpha·p, r - alpha·A p, with A p in t.
 fn move_on(room: &mut [f64], labels: &[u8], g: Sides, alpha: f64)
     requires { ⌜ Held g (now labels) (now room) ⌝ }
+    requires { ⌜ finite alpha ≡ true ⌝ }
+    requires { ⌜ Calm g (now labels) (now room) ⌝ }
+    requires { ⌜ Quiet g (now labels) (t-of (cells g) (now room)) ⌝ }
     ensures { λ _. ⌜ Advanced g (now (labels .entry)) alpha (now (room .entry)) (now (room .exit)) ⌝ }
 {
-    fields::advance(room, labels, g, alpha);
-    fields::reduce(room, labels, g, alpha);
+    let n = labels.len();
+    fields::entries::advance(room, n, alpha);
+    fields::entries::reduce(room, n, alpha);
 }
 
 // The rounds, from the room of the start: as many as the limit allows, each after a test, and a last test.
@@ -78,6 +85,7 @@ fn rounds(
     depth: u32,
 ) -> Answer
     requires { ⌜ Ready g (now labels) (now values) settings plan (now bytes) (now words) (length (now room)) ⌝ }
+    requires { ⌜ Calm g (now labels) (now room) ⌝ }
     ensures { λ r. ⌜ RunOf g (now (labels .entry)) (now (values .entry)) settings interior depth (now (room .entry)) r (now (room .exit)) ⌝ }
 {
     let mut done = 0;

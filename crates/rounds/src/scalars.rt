@@ -5,8 +5,10 @@ ghost use lib.ListN.{length, take, drop};
 ghost use Rattle.method.specs.Cast.{cells};
 ghost use Rattle.method.specs.Levels.{value};
 ghost use Rattle.method.specs.Rounds.{dot, betaOf, finite, usable, step};
-ghost use Rattle.fields.specs.Fields.{Held};
-ghost use Rattle.rounds.specs.Rounds.{below, planSides, planLabels, Prepared, Planned, Drawn, Rho, Sigma, Scaled};
+ghost use Rattle.theory.specs.Quiet.{Quiet};
+ghost use Rattle.fields.specs.Fields.{Held, p-of, z-of, r-of};
+ghost use Rattle.fields.specs.Entries.{Aimed};
+ghost use Rattle.rounds.specs.Rounds.{below, planSides, planLabels, Prepared, Planned, Calm, Drawn, Rho, Applied, Sigma, Scaled};
 use crate::Plan;
 use method::Scalars;
 use method::Sides;
@@ -53,15 +55,17 @@ fn beta_of(done: u32, new: f64, old: f64) -> f64
     if done == 0 { 0.0 } else { new / old }
 }
 
-// The product of the fields at two places of the room, over air cells.
+// The product of the fields at two places of the room, over air cells: off air both are zero.
 fn inner(room: &[f64], labels: &[u8], g: Sides, a: usize, b: usize) -> f64
     requires { ⌜ Held g (now labels) (now room) × ((a ≤ 4 * cells g) × (b ≤ 4 * cells g)) ⌝ }
+    requires { ⌜ Quiet g (now labels) (take (cells g) (drop a (now room))) ⌝ }
+    requires { ⌜ Quiet g (now labels) (take (cells g) (drop b (now room))) ⌝ }
     ensures { λ r. ⌜ r ≡ dot g (now (labels .entry)) (value (take (cells g) (drop a (now (room .entry))))) (value (take (cells g) (drop b (now (room .entry))))) ⌝ }
 {
     let n = labels.len();
     let c = a + n;
     let d = b + n;
-    fields::dot(&room[a..c], &room[b..d], labels, g)
+    fields::entries::dot(&room[a..c], &room[b..d], n)
 }
 
 // z = cycle(r): the cycle is lent the room from z on, whose last element is spare and becomes the zero that entries read.
@@ -80,6 +84,7 @@ fn precondition(room: &mut [f64], bytes: &[u8], words: &[u32], plan: Plan, n: us
 // z, and rho = z·r.
 fn rho_of(room: &mut [f64], bytes: &[u8], words: &[u32], plan: Plan, labels: &[u8], g: Sides) -> f64
     requires { ⌜ Planned plan (now bytes) (now words) g (now labels) (length (now room)) ⌝ }
+    requires { ⌜ Quiet g (now labels) (r-of (cells g) (now room)) ⌝ }
     ensures { λ r. ⌜ Rho g (now (labels .entry)) (below plan) (now (room .entry)) r (now (room .exit)) ⌝ }
 {
     let n = labels.len();
@@ -87,14 +92,59 @@ fn rho_of(room: &mut [f64], bytes: &[u8], words: &[u32], plan: Plan, labels: &[u
     inner(&room[..], labels, g, 2 * n, 3 * n)
 }
 
+// A p in t, over the entries of all air, which read the zero at the room's end.
+fn apply(room: &mut [f64], bytes: &[u8], words: &[u32], plan: Plan, labels: &[u8], g: Sides)
+    requires { ⌜ Planned plan (now bytes) (now words) g (now labels) (length (now room)) ⌝ }
+    ensures { λ _. ⌜ Applied g (now (labels .entry)) (now (room .entry)) (now (room .exit)) ⌝ }
+{
+    let s = plan.lists;
+    let air = cycle::level_air(words, s, 0);
+    let n = labels.len();
+    let nx = g.nx as usize;
+    let plane = nx * (g.ny as usize);
+    let zero = room.len() - 1;
+    cycle::end_in_zero(room);
+    fields::entries::apply(room, air, n, nx, plane, zero);
+}
+
 // A p in t, and sigma = p·A p.
-fn sigma_of(room: &mut [f64], labels: &[u8], g: Sides) -> f64
-    requires { ⌜ Held g (now labels) (now room) ⌝ }
+fn sigma_of(
+    room: &mut [f64],
+    bytes: &[u8],
+    words: &[u32],
+    plan: Plan,
+    labels: &[u8],
+    g: Sides,
+) -> f64
+    requires { ⌜ Planned plan (now bytes) (now words) g (now labels) (length (now room)) ⌝ }
+    requires { ⌜ Quiet g (now labels) (p-of (cells g) (now room)) ⌝ }
     ensures { λ r. ⌜ Sigma g (now (labels .entry)) (now (room .entry)) r (now (room .exit)) ⌝ }
 {
-    fields::apply(room, labels, g);
+    apply(room, bytes, words, plan, labels, g);
     let n = labels.len();
     inner(&room[..], labels, g, n, 4 * n)
+}
+
+// The new direction into p.
+fn aim(
+    room: &mut [f64],
+    bytes: &[u8],
+    words: &[u32],
+    plan: Plan,
+    labels: &[u8],
+    g: Sides,
+    done: u32,
+    beta: f64,
+)
+    requires { ⌜ Planned plan (now bytes) (now words) g (now labels) (length (now room)) ⌝ }
+    requires { ⌜ Quiet g (now labels) (z-of (cells g) (now room)) ⌝ }
+    requires { ⌜ Quiet g (now labels) (p-of (cells g) (now room)) ⌝ }
+    ensures { λ _. ⌜ Aimed g (now (labels .entry)) done beta (now (room .entry)) (now (room .exit)) ⌝ }
+{
+    let s = plan.lists;
+    let air = cycle::level_air(words, s, 0);
+    let n = labels.len();
+    fields::entries::aim(room, air, n, done, beta);
 }
 
 // A round's z, rho, beta, p, A p, sigma and alpha.
@@ -109,12 +159,13 @@ pub(crate) fn scalars_of(
     old: f64,
 ) -> Scalars
     requires { ⌜ Planned plan (now bytes) (now words) g (now labels) (length (now room)) ⌝ }
+    requires { ⌜ Calm g (now labels) (now room) ⌝ }
     ensures { λ r. ⌜ Scaled g (now (labels .entry)) (below plan) done old (now (room .entry)) r (now (room .exit)) ⌝ }
 {
     let rho = rho_of(room, bytes, words, plan, labels, g);
     let beta = beta_of(done, rho, old);
-    fields::aim(room, labels, g, done, beta);
-    let sigma = sigma_of(room, labels, g);
+    aim(room, bytes, words, plan, labels, g, done, beta);
+    let sigma = sigma_of(room, bytes, words, plan, labels, g);
     Scalars {
         rho,
         sigma,

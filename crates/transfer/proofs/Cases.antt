@@ -12,7 +12,7 @@ use Rattle.method.specs.Levels.{half, halved, coarse, value, inAir, restricted}
 use Rattle.method.specs.Cycle.{corrected}
 use Rattle.method.specs.Computing.{computing}
 use Rattle.method.proofs.Cases.{cube, whole, 512f, 256f, 432f, 144f, corner, case-h, case-i}
-use Rattle.transfer.specs.Transfer.{TwoLevels, restrictedRoom, correctedRoom}
+use Rattle.transfer.specs.Transfer.{TwoLevels, restrictedRoom, summed, correctedRoom}
 
 -- all labels of the cube are air
 abbrev pub air : List ℕ
@@ -34,9 +34,9 @@ restrict-h e s t q = q ∙ ap (λ r. take 200 e ++ r ++ drop 208 e) (ap (restric
 added : List Float → List Float
 added l = map (λ x. +0 ⊕ x) l
 
-front : (e : List Float) → map (value (corrected cube air (replicate 64 +0) (256f ∷ replicate 7 +0) ++ drop 64 e)) (0 ∷ 1 ∷ 2 ∷ []) ≡ added (map (value corner) (0 ∷ 1 ∷ 2 ∷ []))
+front : (r : List Float) → map (value (corrected cube air (replicate 64 +0) (256f ∷ replicate 7 +0) ++ r)) (0 ∷ 1 ∷ 2 ∷ []) ≡ added (map (value corner) (0 ∷ 1 ∷ 2 ∷ []))
 unfolding corrected inAir isAir labelAt tab cells added
-front e = refl
+front r = refl
 
 to-zero : added (432f ∷ 432f ∷ 144f ∷ []) ≡ 432f ∷ 432f ∷ 144f ∷ []
 unfolding computing added
@@ -47,4 +47,4 @@ pub correct-i : (e s : List Float) → take 64 e ≡ replicate 64 +0 → take 8 
     → map (value s) (0 ∷ 1 ∷ 2 ∷ []) ≡ 432f ∷ 432f ∷ 144f ∷ []
 unfolding cells halved half
 correct-i e s u w q =
-    ap (λ l. map (value l) (0 ∷ 1 ∷ 2 ∷ [])) (q ∙ ap₂ (λ x y. corrected cube air x y ++ drop 64 e) u w) ∙ front e ∙ ap added case-i ∙ to-zero
+    ap (λ l. map (value l) (0 ∷ 1 ∷ 2 ∷ [])) (q ∙ ap₂ (λ x y. corrected cube air x y ++ (take 64 (drop 64 e) ++ (summed cube air y ++ drop 192 e))) u w) ∙ front _ ∙ ap added case-i ∙ to-zero

@@ -1,8 +1,9 @@
 -- The proof of the cycle of calls {coarse_correction, cycle}. The measure is twice the levels left, and one less in the correction.
 -- Assumes nothing.
 use mathlib.Core.Path.{refl, _∙_}
+use native.Mathlib.Omega.{arith}
 use borrow.Author.Needs.{needs}
-use Rattle.cycle.proofs.Levels.{cycles, labels-few, level-asked, air-listed, band-listed, cleared, cleared-end, stroke-end, corrected-end, level-end, same-ready, two-levels, lent-ready, lent-end, home-room, corrected-is, cycle-more}
+use Rattle.cycle.proofs.Levels.{cycles, labels-few, level-asked, air-listed, band-listed, cleared, cleared-end, stroke-end, corrected-end, level-end, same-ready, all-air, corrected-quiet, two-levels, two-rooms, lent-ready, lent-end, home-room, home-quiet, corrected-is, cycle-more}
 use Prim.Native.Nat.{ℕ, _+_, _-_, _<_}
 use borrow.Fn.Kinds.{In}
 use borrow.Fn.PlainCycle.{Measures, is, falls, and}
@@ -16,6 +17,7 @@ use Rattle.cycle.proofs.coarsest.Reads as coarsest-reads
 use Rattle.cycle.proofs.downstroke.Reads as downstroke-reads
 use Rattle.cycle.proofs.level_labels.Reads as level-labels-reads
 use Rattle.cycle.proofs.level_list.Reads as level-list-reads
+use Rattle.cycle.proofs.level_air.Reads as level-air-reads
 use Rattle.cycle.proofs.lower.Reads as lower-reads
 use Rattle.cycle.proofs.upstroke.Reads as upstroke-reads
 use Rattle.levels.proofs.sides.sides_at.Reads as sides-at-reads
@@ -59,6 +61,8 @@ cc-calls t = (
   sides-at-reads.Learnt,
   level-labels-reads.Asked,
   level-labels-reads.Learnt,
+  level-air-reads.Asked,
+  level-air-reads.Learnt,
   lower-reads.Asked,
   lower-reads.Learnt,
   cycle-below t,
@@ -75,6 +79,8 @@ cy-calls t = (
   level-labels-reads.Learnt,
   level-list-reads.Asked,
   level-list-reads.Learnt,
+  level-air-reads.Asked,
+  level-air-reads.Learnt,
   clear-u-reads.Asked,
   clear-u-reads.Learnt,
   downstroke-reads.Asked,
@@ -107,24 +113,34 @@ coarse-correction-level-labels-requires-2 :
     (t : ℕ) → coarse-correction-lts.Need-level-labels-requires-2 (cc-calls t) (coarse-correction-at t) coarse-correction.Post
 coarse-correction-level-labels-requires-2 t c κs = search cycles
 
+coarse-correction-level-air-requires : (t : ℕ) → coarse-correction-lts.Need-level-air-requires (cc-calls t) (coarse-correction-at t) coarse-correction.Post
+coarse-correction-level-air-requires t c κs = search cycles
+
 coarse-correction-lower-requires : (t : ℕ) → coarse-correction-lts.Need-lower-requires (cc-calls t) (coarse-correction-at t) coarse-correction.Post
-coarse-correction-lower-requires t c κs = search cycles
+coarse-correction-lower-requires t c κs =
+    let start = c .before .before .before .before .before .before .before .before .before in
+    let g = c .before .before .before .before .before .sides-at in
+    let h = c .before .before .before .before .sides-at2 in
+    let ls = c .before .before .before .level-labels in
+    let lc = c .before .before .level-labels2 in
+    let ca = c .before .level-air in
+    (two-levels (start .pre .1 .0) (start .pre .1 .1 .1) (g .ensures) (h .ensures) (ls .ensures) (lc .ensures), (two-rooms (start .pre .1 .0) (start .pre .1 .1 .1) (g .ensures) (h .ensures) (ls .ensures) (lc .ensures), (level-end (start .pre .1 .0) (g .ensures) (start .pre .1 .1 .0), all-air (start .pre .1 .0) (g .ensures) (ls .ensures) (ca .ensures))))
 
 coarse-correction-mul-start : (t : ℕ) → coarse-correction-lts.Need-mul-start (cc-calls t) (coarse-correction-at t) coarse-correction.Post
 coarse-correction-mul-start t c =
     let at-lower = c .before .before in
-    let start = at-lower .before .before .before .before .before .before .before .before .before in
-    let g = at-lower .before .before .before .before .before .sides-at in
-    let ls = at-lower .before .before .before .level-labels in
+    let start = at-lower .before .before .before .before .before .before .before .before .before .before in
+    let g = at-lower .before .before .before .before .before .before .sides-at in
+    let ls = at-lower .before .before .before .before .level-labels in
     let few = labels-few (start .pre .1 .0) (g .ensures) (ls .ensures) in
     search needs
 
 coarse-correction-mul-cycle : (t : ℕ) → coarse-correction-lts.Need-mul-cycle (cc-calls t) (coarse-correction-at t) coarse-correction.Post
 coarse-correction-mul-cycle t c =
     let at-lower = c .before .before in
-    let start = at-lower .before .before .before .before .before .before .before .before .before in
-    let g = at-lower .before .before .before .before .before .sides-at in
-    let ls = at-lower .before .before .before .level-labels in
+    let start = at-lower .before .before .before .before .before .before .before .before .before .before in
+    let g = at-lower .before .before .before .before .before .before .sides-at in
+    let ls = at-lower .before .before .before .before .level-labels in
     let few = labels-few (start .pre .1 .0) (g .ensures) (ls .ensures) in
     search needs
 
@@ -138,27 +154,30 @@ coarse-correction-part-cycle-end : (t : ℕ) → coarse-correction-lts.Need-part
 coarse-correction-part-cycle-end t c = search cycles
 
 coarse-correction-add-cycle : (t : ℕ) → coarse-correction-lts.Need-add-cycle (cc-calls t) (coarse-correction-at t) coarse-correction.Post
-coarse-correction-add-cycle t c = search cycles
+coarse-correction-add-cycle t c =
+    let at-lower = c .before .before .before in
+    let start = at-lower .before .before .before .before .before .before .before .before .before .before in
+    omega (arith, start .pre .1 .1 .1, start .pre .1 .0 .prepared .most)
 
 coarse-correction-cycle-requires : (t : ℕ) → coarse-correction-lts.Need-cycle-requires (cc-calls t) (coarse-correction-at t) coarse-correction.Post
 coarse-correction-cycle-requires t c κs =
     let at-lower = c .before .before .before in
-    let start = at-lower .before .before .before .before .before .before .before .before .before in
-    let g = at-lower .before .before .before .before .before .sides-at in
-    let h = at-lower .before .before .before .before .sides-at2 in
-    let ls = at-lower .before .before .before .level-labels in
-    let lc = at-lower .before .before .level-labels2 in
+    let start = at-lower .before .before .before .before .before .before .before .before .before .before in
+    let g = at-lower .before .before .before .before .before .before .sides-at in
+    let h = at-lower .before .before .before .before .before .sides-at2 in
+    let ls = at-lower .before .before .before .before .level-labels in
+    let lc = at-lower .before .before .before .level-labels2 in
     (search cycles, (lent-ready (start .pre .1 .0) (start .pre .1 .1 .1) (g .ensures) (h .ensures) (ls .ensures) (lc .ensures) (at-lower .lower .last .0) (at-lower .lower .kept .0), lent-end (start .pre .1 .0) (start .pre .1 .1 .1) (g .ensures) (h .ensures) (ls .ensures) (lc .ensures) _ _ refl (start .pre .1 .1 .0) (at-lower .lower .ensures)))
 
 coarse-correction-correct-requires : (t : ℕ) → coarse-correction-lts.Need-correct-requires (cc-calls t) (coarse-correction-at t) coarse-correction.Post
 coarse-correction-correct-requires t c κs =
     let at-lower = c .before .before .before .before .before .before .before in
-    let start = at-lower .before .before .before .before .before .before .before .before .before in
-    let g = at-lower .before .before .before .before .before .sides-at in
-    let h = at-lower .before .before .before .before .sides-at2 in
-    let ls = at-lower .before .before .before .level-labels in
-    let lc = at-lower .before .before .level-labels2 in
-    (two-levels (start .pre .1 .0) (start .pre .1 .1 .1) (g .ensures) (h .ensures) (ls .ensures) (lc .ensures), home-room (start .pre .1 .0) (start .pre .1 .1 .1) (g .ensures) (h .ensures) (ls .ensures) (lc .ensures) (at-lower .lower .last .0) (c .before .before .before .cycle .last .0) (at-lower .lower .kept .0) (c .before .before .before .cycle .kept .0))
+    let start = at-lower .before .before .before .before .before .before .before .before .before .before in
+    let g = at-lower .before .before .before .before .before .before .sides-at in
+    let h = at-lower .before .before .before .before .before .sides-at2 in
+    let ls = at-lower .before .before .before .before .level-labels in
+    let lc = at-lower .before .before .before .level-labels2 in
+    (two-levels (start .pre .1 .0) (start .pre .1 .1 .1) (g .ensures) (h .ensures) (ls .ensures) (lc .ensures), (home-room (start .pre .1 .0) (start .pre .1 .1 .1) (g .ensures) (h .ensures) (ls .ensures) (lc .ensures) (at-lower .lower .last .0) (c .before .before .before .cycle .last .0) (at-lower .lower .kept .0) (c .before .before .before .cycle .kept .0), home-quiet (start .pre .1 .0) (start .pre .1 .1 .1) (g .ensures) (h .ensures) (ls .ensures) (lc .ensures) _ _ (at-lower .lower .kept .0) (c .before .before .before .cycle .ensures)))
 
 coarse-correction-same-length : (t : ℕ) → coarse-correction-lts.Need-same-length (cc-calls t) (coarse-correction-at t) coarse-correction.Post
 coarse-correction-same-length t c = search cycles
@@ -166,11 +185,11 @@ coarse-correction-same-length t c = search cycles
 coarse-correction-returns : (t : ℕ) → coarse-correction-lts.Need-returns (cc-calls t) (coarse-correction-at t) coarse-correction.Post
 coarse-correction-returns t c =
     let at-lower = c .before .before .before .before .before .before .before .before .before .before in
-    let start = at-lower .before .before .before .before .before .before .before .before .before in
-    let g = at-lower .before .before .before .before .before .sides-at in
-    let h = at-lower .before .before .before .before .sides-at2 in
-    let ls = at-lower .before .before .before .level-labels in
-    let lc = at-lower .before .before .level-labels2 in
+    let start = at-lower .before .before .before .before .before .before .before .before .before .before in
+    let g = at-lower .before .before .before .before .before .before .sides-at in
+    let h = at-lower .before .before .before .before .before .sides-at2 in
+    let ls = at-lower .before .before .before .before .level-labels in
+    let lc = at-lower .before .before .before .level-labels2 in
     corrected-is (start .pre .1 .0) (start .pre .1 .1 .1) (g .ensures) (h .ensures) (ls .ensures) (lc .ensures) _ _ _ _ refl (at-lower .lower .ensures) (c .before .before .before .before .before .before .cycle .ensures) (c .before .before .correct .ensures)
 
 cycle-sides-at-requires : (t : ℕ) → cycle-lts.Need-sides-at-requires (cy-calls t) (cycle-at t) cycle.Post
@@ -182,6 +201,9 @@ cycle-level-labels-requires t c κs = search cycles
 cycle-level-list-requires : (t : ℕ) → cycle-lts.Need-level-list-requires (cy-calls t) (cycle-at t) cycle.Post
 cycle-level-list-requires t c κs = search cycles
 
+cycle-level-air-requires : (t : ℕ) → cycle-lts.Need-level-air-requires (cy-calls t) (cycle-at t) cycle.Post
+cycle-level-air-requires t c κs = search cycles
+
 cycle-clear-u-requires : (t : ℕ) → cycle-lts.Need-clear-u-requires (cy-calls t) (cycle-at t) cycle.Post
 cycle-clear-u-requires t c κs = search cycles
 
@@ -191,10 +213,11 @@ cycle-add-if1 t c = search cycles
 cycle-coarsest-requires : (t : ℕ) → cycle-lts.Need-coarsest-requires (cy-calls t) (cycle-at t) cycle.Post
 cycle-coarsest-requires t c κs =
     let at-clear = c .before .before .before .before in
-    let start = at-clear .before .before .before .before .before .before .before .before in
-    let g = at-clear .before .before .before .before .sides-at in
-    let ls = at-clear .before .before .before .level-labels in
-    let cs = at-clear .before .before .level-list in
+    let start = at-clear .before .before .before .before .before .before .before .before .before in
+    let g = at-clear .before .before .before .before .before .sides-at in
+    let ls = at-clear .before .before .before .before .level-labels in
+    let cs = at-clear .before .before .before .level-list in
+    let ca = at-clear .before .before .level-air in
     let cleared-long = at-clear .clear-u .kept .0 in
     let zero = cleared-end (start .pre .1 .0) (g .ensures) _ _ refl (start .pre .1 .1) (at-clear .clear-u .ensures) in
     (level-asked (start .pre .1 .0) (g .ensures) (ls .ensures) _ cleared-long, (level-end (start .pre .1 .0) (g .ensures) zero, (air-listed (start .pre .1 .0) (g .ensures) (ls .ensures) (cs .ensures) (c .before .if1 .left), cleared (start .pre .1 .0) (g .ensures) _ _ refl (at-clear .clear-u .ensures))))
@@ -202,19 +225,20 @@ cycle-coarsest-requires t c κs =
 cycle-downstroke-requires : (t : ℕ) → cycle-lts.Need-downstroke-requires (cy-calls t) (cycle-at t) cycle.Post
 cycle-downstroke-requires t c κs =
     let at-clear = c .before .before .before .before in
-    let start = at-clear .before .before .before .before .before .before .before .before in
-    let g = at-clear .before .before .before .before .sides-at in
-    let ls = at-clear .before .before .before .level-labels in
-    let cs = at-clear .before .before .level-list in
+    let start = at-clear .before .before .before .before .before .before .before .before .before in
+    let g = at-clear .before .before .before .before .before .sides-at in
+    let ls = at-clear .before .before .before .before .level-labels in
+    let cs = at-clear .before .before .before .level-list in
+    let ca = at-clear .before .before .level-air in
     let cleared-long = at-clear .clear-u .kept .0 in
     let zero = cleared-end (start .pre .1 .0) (g .ensures) _ _ refl (start .pre .1 .1) (at-clear .clear-u .ensures) in
-    (search needs, (level-asked (start .pre .1 .0) (g .ensures) (ls .ensures) _ cleared-long, (level-end (start .pre .1 .0) (g .ensures) zero, (band-listed (start .pre .1 .0) (g .ensures) (ls .ensures) (cs .ensures) (c .before .if1 .taken), cleared (start .pre .1 .0) (g .ensures) _ _ refl (at-clear .clear-u .ensures)))))
+    (search needs, (level-asked (start .pre .1 .0) (g .ensures) (ls .ensures) _ cleared-long, (level-end (start .pre .1 .0) (g .ensures) zero, (band-listed (start .pre .1 .0) (g .ensures) (ls .ensures) (cs .ensures) (c .before .if1 .taken), (all-air (start .pre .1 .0) (g .ensures) (ls .ensures) (ca .ensures), cleared (start .pre .1 .0) (g .ensures) _ _ refl (at-clear .clear-u .ensures))))))
 
 cycle-coarse-correction-requires : (t : ℕ) → cycle-lts.Need-coarse-correction-requires (cy-calls t) (cycle-at t) cycle.Post
 cycle-coarse-correction-requires t c κs =
     let at-clear = c .before .before .before .before .before .before .before .before in
-    let start = at-clear .before .before .before .before .before .before .before .before in
-    let g = at-clear .before .before .before .before .sides-at in
+    let start = at-clear .before .before .before .before .before .before .before .before .before in
+    let g = at-clear .before .before .before .before .before .sides-at in
     let cleared-long = at-clear .clear-u .kept .0 in
     let zero = cleared-end (start .pre .1 .0) (g .ensures) _ _ refl (start .pre .1 .1) (at-clear .clear-u .ensures) in
     let zero-then = stroke-end (start .pre .1 .0) (g .ensures) _ _ _ zero (c .before .before .before .downstroke .ensures) in
@@ -223,15 +247,16 @@ cycle-coarse-correction-requires t c κs =
 cycle-upstroke-requires : (t : ℕ) → cycle-lts.Need-upstroke-requires (cy-calls t) (cycle-at t) cycle.Post
 cycle-upstroke-requires t c κs =
     let at-clear = c .before .before .before .before .before .before .before .before .before .before .before .before in
-    let start = at-clear .before .before .before .before .before .before .before .before in
-    let g = at-clear .before .before .before .before .sides-at in
-    let ls = at-clear .before .before .before .level-labels in
-    let cs = at-clear .before .before .level-list in
+    let start = at-clear .before .before .before .before .before .before .before .before .before in
+    let g = at-clear .before .before .before .before .before .sides-at in
+    let ls = at-clear .before .before .before .before .level-labels in
+    let cs = at-clear .before .before .before .level-list in
+    let ca = at-clear .before .before .level-air in
     let cleared-long = at-clear .clear-u .kept .0 in
     let zero = cleared-end (start .pre .1 .0) (g .ensures) _ _ refl (start .pre .1 .1) (at-clear .clear-u .ensures) in
     let zero-then = stroke-end (start .pre .1 .0) (g .ensures) _ _ _ zero (c .before .before .before .before .before .before .before .downstroke .ensures) in
     let zero-last = corrected-end (start .pre .1 .0) _ _ zero-then (c .before .before .before .coarse-correction .ensures) in
-    (search needs, (level-asked (start .pre .1 .0) (g .ensures) (ls .ensures) _ (c .before .before .before .coarse-correction .kept .0 ∙ c .before .before .before .before .before .before .before .downstroke .kept .0 ∙ cleared-long), (level-end (start .pre .1 .0) (g .ensures) zero-last, band-listed (start .pre .1 .0) (g .ensures) (ls .ensures) (cs .ensures) (c .before .before .before .before .before .before .before .before .before .if1 .taken))))
+    (search needs, (level-asked (start .pre .1 .0) (g .ensures) (ls .ensures) _ (c .before .before .before .coarse-correction .kept .0 ∙ c .before .before .before .before .before .before .before .downstroke .kept .0 ∙ cleared-long), (level-end (start .pre .1 .0) (g .ensures) zero-last, (band-listed (start .pre .1 .0) (g .ensures) (ls .ensures) (cs .ensures) (c .before .before .before .before .before .before .before .before .before .if1 .taken), (all-air (start .pre .1 .0) (g .ensures) (ls .ensures) (ca .ensures), corrected-quiet (start .pre .1 .0) (g .ensures) (ls .ensures) _ _ (c .before .before .before .coarse-correction .ensures))))))
 
 cycle-same-length : (t : ℕ) → cycle-lts.Need-same-length (cy-calls t) (cycle-at t) cycle.Post
 cycle-same-length t c = search cycles
@@ -239,10 +264,11 @@ cycle-same-length t c = search cycles
 cycle-returns : (t : ℕ) → cycle-lts.Need-returns (cy-calls t) (cycle-at t) cycle.Post
 cycle-returns t c =
     let at-clear = c .before .before .before .before .before .before .before .before .before .before .before .before .before .before .before in
-    let start = at-clear .before .before .before .before .before .before .before .before in
-    let g = at-clear .before .before .before .before .sides-at in
-    let ls = at-clear .before .before .before .level-labels in
-    let cs = at-clear .before .before .level-list in
+    let start = at-clear .before .before .before .before .before .before .before .before .before in
+    let g = at-clear .before .before .before .before .before .sides-at in
+    let ls = at-clear .before .before .before .before .level-labels in
+    let cs = at-clear .before .before .before .level-list in
+    let ca = at-clear .before .before .level-air in
     cycle-more (start .pre .1 .0) (g .ensures) (ls .ensures) (cs .ensures) _ _ _ _ _ refl (c .before .before .before .before .before .before .before .before .before .before .before .before .if1 .taken) (at-clear .clear-u .ensures) (c .before .before .before .before .before .before .before .before .before .before .downstroke .ensures) (c .before .before .before .before .before .before .coarse-correction .ensures) (c .before .before .upstroke .ensures)
 
 cycle-same-length-2 : (t : ℕ) → cycle-lts.Need-same-length-2 (cy-calls t) (cycle-at t) cycle.Post
@@ -261,6 +287,7 @@ pub +coarse-correction+cycle-spec : {M : Type 1} → statement M
     (coarse-correction-level-labels-requires t)
     (coarse-correction-add-level-labels t)
     (coarse-correction-level-labels-requires-2 t)
+    (coarse-correction-level-air-requires t)
     (coarse-correction-lower-requires t)
     (coarse-correction-mul-start t)
     (coarse-correction-mul-cycle t)
@@ -278,6 +305,7 @@ pub +coarse-correction+cycle-spec : {M : Type 1} → statement M
     (cycle-sides-at-requires t)
     (cycle-level-labels-requires t)
     (cycle-level-list-requires t)
+    (cycle-level-air-requires t)
     (cycle-clear-u-requires t)
     (cycle-add-if1 t)
     (cycle-downstroke-requires t)

@@ -3,8 +3,8 @@ use Rattle.cycle.proofs.Laws.{strokes}
 use Rattle.cycle.proofs.downstroke.Statement.{statement}
 use Rattle.cycle.proofs.downstroke.Tie as tie
 
-jacobi-requires : tie.Need-jacobi-requires
-jacobi-requires c κs = search strokes
+first-jacobi-requires : tie.Need-first-jacobi-requires
+first-jacobi-requires c κs = (search strokes, (search strokes, search strokes))
 
 sweep-count-requires : tie.Need-sweep-count-requires
 sweep-count-requires c κs = search strokes
@@ -21,4 +21,4 @@ returns c = search strokes
 pub downstroke-spec : {M : Type 1} → statement M
 downstroke-spec =
     tie.close
-    (tie.spec jacobi-requires sweep-count-requires sweep-times-requires same-length returns)
+    (tie.spec first-jacobi-requires sweep-count-requires sweep-times-requires same-length returns)

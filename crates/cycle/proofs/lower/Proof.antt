@@ -4,7 +4,7 @@ use Rattle.cycle.proofs.lower.Statement.{statement}
 use Rattle.cycle.proofs.lower.Tie as tie
 
 residual-requires : tie.Need-residual-requires
-residual-requires c κs = search lowering
+residual-requires c κs = (search lowering, (search lowering, search lowering))
 
 restrict-requires : tie.Need-restrict-requires
 restrict-requires c κs = search lowering

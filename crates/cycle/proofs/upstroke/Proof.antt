@@ -10,7 +10,7 @@ sweep-times-requires : tie.Need-sweep-times-requires
 sweep-times-requires c κs = search strokes
 
 jacobi-requires : tie.Need-jacobi-requires
-jacobi-requires c κs = search strokes
+jacobi-requires c κs = (search strokes, (search strokes, (search strokes, search strokes)))
 
 same-length : tie.Need-same-length
 same-length c = search strokes

@@ -3,13 +3,15 @@ use Prim.Native.Nat.{_-_, _≤_}
 use mathlib.Core.Path.{_≡_, _∙_}
 use borrow.Author.Needs.{needs}
 use lib.ListN.{length}
+use Rattle.rounds.specs.Rounds.{Calm}
+use Rattle.rounds.proofs.Calm.{scaled-calm, scaled-t, advanced-calm, go-finite}
 use Rattle.rounds.proofs.Budget.{Left, budget, left-stall, left-more}
 use Rattle.rounds.proofs.rounds.Statement.{statement}
 use Rattle.rounds.proofs.rounds.Tie as tie
 
 abbrev Inv-loop : tie.InvT-loop
 Inv-loop room₀ bytes words plan labels values settings g interior depth done₀ rho₀ room done rho =
-    (done ≤ settings .rounds) × ((length room ≡ length room₀) × Left g labels values settings interior depth room₀ done rho room)
+    (done ≤ settings .rounds) × ((length room ≡ length room₀) × (Calm g labels room × Left g labels values settings interior depth room₀ done rho room))
 
 abbrev μ-loop : tie.MeasureT-loop
 μ-loop room₀ bytes words plan labels values settings g interior depth done₀ rho₀ room done rho = settings .rounds - done
@@ -37,7 +39,7 @@ enum-told : tie.Need-enum-told Inv-loop μ-loop
 enum-told c = search budget
 
 scalars-of-requires : tie.Need-scalars-of-requires Inv-loop μ-loop
-scalars-of-requires c κs = search budget
+scalars-of-requires c κs = (search budget, search needs)
 
 step-of-requires : tie.Need-step-of-requires Inv-loop μ-loop
 step-of-requires c κs = search budget
@@ -62,13 +64,18 @@ returns-2 c =
     let tested = scaled .before .before .before .before in
     let loop = tested .before .before .before .before in
     let start = loop .before .before .before .before .before in
-    left-stall _ _ _ _ _ _ _ _ _ _ (loop .loop .inv .1 .1) _ (tested .test-x .ensures) _ _ _ _ (start .pre) (tested .before .before .if1 .taken) (scaled .before .before .enum-told .given .1) _ _ (scaled .scalars-of .ensures) _ (stepped .step-of .ensures) _ _ (told .enum-told2 .given .1) (c .ended2 .ensures)
+    left-stall _ _ _ _ _ _ _ _ _ _ (loop .loop .inv .1 .1 .1) _ (tested .test-x .ensures) _ _ _ _ (start .pre .0) (tested .before .before .if1 .taken) (scaled .before .before .enum-told .given .1) _ _ (scaled .scalars-of .ensures) _ (stepped .step-of .ensures) _ _ (told .enum-told2 .given .1) (c .ended2 .ensures)
 
 enum-known-alpha : tie.Need-enum-known-alpha Inv-loop μ-loop
 enum-known-alpha c = search budget
 
 move-on-requires : tie.Need-move-on-requires Inv-loop μ-loop
-move-on-requires c κs = search budget
+move-on-requires c κs =
+    let known = c .before in
+    let stepped = known .before .before .before in
+    let scaled = stepped .before .before .before in
+    let loop = scaled .before .before .before .before .before .before .before .before in
+    (search budget, (go-finite _ _ _ (stepped .step-of .ensures) (known .before .alpha .given .1), (scaled-calm (scaled .scalars-of .ensures) (loop .loop .inv .1 .1 .0), scaled-t (scaled .scalars-of .ensures))))
 
 add-done : tie.Need-add-done Inv-loop μ-loop
 add-done c = search budget
@@ -85,7 +92,7 @@ loop-again c =
     let tested = scaled .before .before .before .before in
     let loop = tested .before .before .before .before in
     let start = loop .before .before .before .before .before in
-    (search needs, (moved .move-on .kept .0 ∙ scaled .scalars-of .kept .0 ∙ loop .loop .inv .1 .0, left-more _ _ _ _ _ _ _ _ _ _ (loop .loop .inv .1 .1) _ (tested .test-x .ensures) _ _ _ _ (start .pre) (tested .before .before .if1 .taken) (scaled .before .before .enum-told .given .1) _ _ (scaled .scalars-of .ensures) _ (stepped .step-of .ensures) _ _ (known .before .alpha .given .1) (moved .move-on .ensures)))
+    (search needs, (moved .move-on .kept .0 ∙ scaled .scalars-of .kept .0 ∙ loop .loop .inv .1 .0, (advanced-calm (scaled-calm (scaled .scalars-of .ensures) (loop .loop .inv .1 .1 .0)) (moved .move-on .ensures), left-more _ _ _ _ _ _ _ _ _ _ (loop .loop .inv .1 .1 .1) _ (tested .test-x .ensures) _ _ _ _ (start .pre .0) (tested .before .before .if1 .taken) (scaled .before .before .enum-told .given .1) _ _ (scaled .scalars-of .ensures) _ (stepped .step-of .ensures) _ _ (known .before .alpha .given .1) (moved .move-on .ensures))))
 
 test-x-requires-2 : tie.Need-test-x-requires-2 Inv-loop μ-loop
 test-x-requires-2 c κs = search budget

@@ -7,7 +7,7 @@ start-requires : tie.Need-start-requires
 start-requires c κs = search budget
 
 rounds-requires : tie.Need-rounds-requires
-rounds-requires c κs = search budget
+rounds-requires c κs = (search budget, search budget)
 
 same-length : tie.Need-same-length
 same-length c = search needs

@@ -1,4 +1,4 @@
-use Rattle.rounds.proofs.Turns.{turns}
+use Rattle.rounds.proofs.Turns.{inner-done}
 use borrow.Author.Needs.{needs}
 use Rattle.rounds.proofs.scalars.inner.Statement.{statement}
 use Rattle.rounds.proofs.scalars.inner.Tie as tie
@@ -37,7 +37,7 @@ dot-requires : tie.Need-dot-requires
 dot-requires c κs = search needs
 
 returns : tie.Need-returns
-returns c = search turns
+returns c = let f = c .dot .ensures in search (needs, inner-done, f)
 
 pub inner-spec : {M : Type 1} → statement M
 inner-spec =

@@ -1,4 +1,5 @@
 use Rattle.rounds.proofs.Turns.{turns}
+use Rattle.rounds.proofs.Calm.{calm}
 use borrow.Author.Needs.{needs}
 use Rattle.rounds.proofs.scalars.rho_of.Statement.{statement}
 use Rattle.rounds.proofs.scalars.rho_of.Tie as tie
@@ -13,7 +14,7 @@ mul-inner-2 : tie.Need-mul-inner-2
 mul-inner-2 c = search needs
 
 inner-requires : tie.Need-inner-requires
-inner-requires c κs = search turns
+inner-requires c κs = (search turns, (search calm, search calm))
 
 same-length : tie.Need-same-length
 same-length c = search needs

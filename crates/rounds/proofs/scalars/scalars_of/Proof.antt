@@ -1,19 +1,20 @@
 use Rattle.rounds.proofs.Turns.{turns, scaled-is}
+use Rattle.rounds.proofs.Calm.{calm}
 use borrow.Author.Needs.{needs}
 use Rattle.rounds.proofs.scalars.scalars_of.Statement.{statement}
 use Rattle.rounds.proofs.scalars.scalars_of.Tie as tie
 
 rho-of-requires : tie.Need-rho-of-requires
-rho-of-requires c κs = search needs
+rho-of-requires c κs = (search needs, search needs)
 
 beta-of-requires : tie.Need-beta-of-requires
 beta-of-requires c κs = search needs
 
 aim-requires : tie.Need-aim-requires
-aim-requires c κs = search turns
+aim-requires c κs = (search turns, (search calm, search calm))
 
 sigma-of-requires : tie.Need-sigma-of-requires
-sigma-of-requires c κs = search turns
+sigma-of-requires c κs = (search turns, search calm)
 
 same-length : tie.Need-same-length
 same-length c = search needs

@@ -1,4 +1,5 @@
-use Rattle.rounds.proofs.Turns.{sigma-is}
+use Rattle.rounds.proofs.Turns.{turns, sigma-is}
+use Rattle.rounds.proofs.Calm.{calm}
 use borrow.Author.Needs.{needs}
 use Rattle.rounds.proofs.scalars.sigma_of.Statement.{statement}
 use Rattle.rounds.proofs.scalars.sigma_of.Tie as tie
@@ -10,13 +11,13 @@ mul-inner : tie.Need-mul-inner
 mul-inner c = search needs
 
 inner-requires : tie.Need-inner-requires
-inner-requires c κs = search needs
+inner-requires c κs = (search turns, (search calm, search calm))
 
 same-length : tie.Need-same-length
 same-length c = search needs
 
 returns : tie.Need-returns
-returns c = search (sigma-is)
+returns c = search (needs, sigma-is)
 
 pub sigma-of-spec : {M : Type 1} → statement M
 sigma-of-spec = tie.close (tie.spec apply-requires mul-inner inner-requires same-length returns)

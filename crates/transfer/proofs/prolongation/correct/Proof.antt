@@ -1,50 +1,19 @@
--- `transfer::prolongation::correct` meets its contract, by the contract of its turn. Assumes nothing.
-use Prim.Native.Nat.{_≤_, _-_}
-use mathlib.Core.Path.{_≡_}
-use lib.ListN.{length}
-use Rattle.laws.proofs.Loops.{Up}
-use Rattle.transfer.specs.Transfer.{correctStep}
-use Rattle.transfer.proofs.Rooms.{rooms}
+-- `transfer::prolongation::correct` meets its contract: the sums, divided and added in air. Assumes nothing.
+use Rattle.transfer.proofs.Ends.{ends}
 use Rattle.transfer.proofs.prolongation.correct.Statement.{statement}
 use Rattle.transfer.proofs.prolongation.correct.Tie as tie
 
-abbrev Inv-loop : tie.InvT-loop
-Inv-loop room₀ labels below g h c₀ room c = (c ≤ length labels) × (length room ≡ length room₀) × Up (correctStep g labels below) room₀ c room
+sum-rows-requires : tie.Need-sum-rows-requires
+sum-rows-requires c κs = search ends
 
-abbrev μ-loop : tie.MeasureT-loop
-μ-loop room₀ labels below g h c₀ room c = length labels - c
+add-sums-requires : tie.Need-add-sums-requires
+add-sums-requires c κs = search ends
 
-loop-holds : tie.Need-loop-holds Inv-loop μ-loop
-loop-holds c = search rooms
+same-length : tie.Need-same-length
+same-length c = search ends
 
-correct-at-requires : tie.Need-correct-at-requires Inv-loop μ-loop
-correct-at-requires c κs = search rooms
-
-add-c : tie.Need-add-c Inv-loop μ-loop
-add-c c = search rooms
-
-loop-less : tie.Need-loop-less Inv-loop μ-loop
-loop-less c = search rooms
-
-loop-again : tie.Need-loop-again Inv-loop μ-loop
-loop-again c = search rooms
-
-same-length : tie.Need-same-length Inv-loop μ-loop
-same-length c = search rooms
-
-returns : tie.Need-returns Inv-loop μ-loop
-returns c = search rooms
+returns : tie.Need-returns
+returns c = search ends
 
 pub correct-spec : {M : Type 1} → statement M
-correct-spec =
-    tie.close
-    (tie.spec
-    Inv-loop
-    μ-loop
-    loop-holds
-    correct-at-requires
-    add-c
-    loop-less
-    loop-again
-    same-length
-    returns)
+correct-spec = tie.close (tie.spec sum-rows-requires add-sums-requires same-length returns)
