@@ -1,5 +1,6 @@
 -- `cycle::lower` meets its contract, by the contracts of the two that it calls. Assumes nothing.
-use Rattle.cycle.proofs.Laws.{lowering}
+use borrow.Author.Needs.{needs}
+use Rattle.cycle.proofs.Laws.{lowering, lower-quiet}
 use Rattle.cycle.proofs.lower.Statement.{statement}
 use Rattle.cycle.proofs.lower.Tie as tie
 
@@ -7,7 +8,11 @@ residual-requires : tie.Need-residual-requires
 residual-requires c κs = (search lowering, (search lowering, search lowering))
 
 restrict-requires : tie.Need-restrict-requires
-restrict-requires c κs = search lowering
+restrict-requires c κs =
+    let rest = c .before .before .before in
+    let start = rest .before .before .before .before .before .before in
+    let a = start .args in
+    (search needs, (search needs, lower-quiet (a .g) (a .h) (a .labels .now) (a .below .now) (a .room .now) _ (a .room .now) (start .pre .0) (start .pre .1 .0) (rest .residual .ensures)))
 
 same-length : tie.Need-same-length
 same-length c = search lowering

@@ -16,9 +16,9 @@ returns : tie.Need-returns
 returns c =
     let reduced = c .before .before in
     let advanced = reduced .before .before .before .before in
-    let f = advanced .advance .ensures in
-    let w = reduced .reduce .ensures in
-    search (needs, advanced-done, f, w)
+    let start = advanced .before .before .before .before in
+    let a = start .args in
+    advanced-done (a .g) (a .labels .now) (a .alpha) (a .room .now) _ _ (start .pre .0) (start .pre .1 .1 .0) (start .pre .1 .1 .1) (advanced .advance .ensures) (reduced .reduce .ensures)
 
 pub move-on-spec : {M : Type 1} → statement M
 move-on-spec = tie.close (tie.spec advance-requires reduce-requires same-length returns)

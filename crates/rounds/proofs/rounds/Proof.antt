@@ -5,7 +5,7 @@ use borrow.Author.Needs.{needs}
 use lib.ListN.{length}
 use Rattle.rounds.specs.Rounds.{Calm}
 use Rattle.rounds.proofs.Calm.{scaled-calm, scaled-t, advanced-calm, go-finite}
-use Rattle.rounds.proofs.Budget.{Left, budget, left-stall, left-more}
+use Rattle.rounds.proofs.Budget.{Left, budget, left-stall, left-more, held-ready}
 use Rattle.rounds.proofs.rounds.Statement.{statement}
 use Rattle.rounds.proofs.rounds.Tie as tie
 
@@ -75,7 +75,8 @@ move-on-requires c κs =
     let stepped = known .before .before .before in
     let scaled = stepped .before .before .before in
     let loop = scaled .before .before .before .before .before .before .before .before in
-    (search budget, (go-finite _ _ _ (stepped .step-of .ensures) (known .before .alpha .given .1), (scaled-calm (scaled .scalars-of .ensures) (loop .loop .inv .1 .1 .0), scaled-t (scaled .scalars-of .ensures))))
+    let start = loop .before .before .before .before .before in
+    (held-ready (start .pre .0) _ (scaled .scalars-of .kept .0 ∙ loop .loop .inv .1 .0), (go-finite _ _ _ (stepped .step-of .ensures) (known .before .alpha .given .1), (scaled-calm (scaled .scalars-of .ensures) (loop .loop .inv .1 .1 .0), scaled-t (scaled .scalars-of .ensures))))
 
 add-done : tie.Need-add-done Inv-loop μ-loop
 add-done c = search budget

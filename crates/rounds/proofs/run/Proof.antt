@@ -1,4 +1,5 @@
-use Rattle.rounds.proofs.Budget.{budget}
+use mathlib.Core.Path.{refl}
+use Rattle.rounds.proofs.Budget.{budget, held-ready, start-calm}
 use borrow.Author.Needs.{needs}
 use Rattle.rounds.proofs.run.Statement.{statement}
 use Rattle.rounds.proofs.run.Tie as tie
@@ -7,7 +8,11 @@ start-requires : tie.Need-start-requires
 start-requires c κs = search budget
 
 rounds-requires : tie.Need-rounds-requires
-rounds-requires c κs = (search budget, search budget)
+rounds-requires c κs =
+    let begun = c .before .before .before in
+    let start = begun .before .before .before .before .before .before in
+    let a = start .args in
+    (search budget, start-calm (a .g) (a .labels .now) (a .values .now) (a .room .now) _ (held-ready (start .pre) (a .room .now) refl) (begun .start .ensures))
 
 same-length : tie.Need-same-length
 same-length c = search needs

@@ -15,7 +15,12 @@ same-length : tie.Need-same-length
 same-length c = search needs
 
 returns : tie.Need-returns
-returns c = ?
+returns c =
+    let made = c .before .before in
+    let air = made .before .before in
+    let start = air .before .before .before .before .before .before in
+    let a = start .args in
+    made .aim .ensures (a .g) (a .labels .now) (air-listed (a .room .now) (start .pre .0) (air .level-air .ensures)) (start .pre .1 .0) (start .pre .1 .1)
 
 pub aim-spec : {M : Type 1} → statement M
 aim-spec = tie.close (tie.spec level-air-requires aim-requires same-length returns)
