@@ -8,7 +8,7 @@ use borrow.Author.Needs.{needs}
 use lib.ListN.{length, getD, set, take, drop, length-drop}
 use lib.Seq.{getD-drop, getD-set-other}
 use lib.Ieee.{Float, nan, inf, fin, lt}
-use Rattle.laws.specs.Binary64.{_⊕_, _⊗_, +0}
+use Rattle.laws.specs.Binary64.{+0}
 use Rattle.laws.specs.Loops.{up}
 use Rattle.laws.specs.Lists.{tab}
 use Rattle.laws.proofs.Loops.{Up, ups, up-more, up-end}
@@ -21,13 +21,13 @@ use Rattle.method.specs.Levels.{value, inAir}
 use Rattle.method.specs.Rounds.{direction, finite}
 use Rattle.theory.specs.Quiet.{Quiet}
 use Rattle.grid.specs.Entries.{cellsOf}
-use Rattle.smooth.specs.Entries.{AirEntries, InCells}
+use Rattle.smooth.specs.Entries.{AirEntries}
 use Rattle.smooth.specs.Written.{writeAt, written, Covers}
 use Rattle.smooth.proofs.StencilLaws.{field-at, beyond, cells-at}
 use Rattle.smooth.proofs.EntryLaws.{cell-at, count-is}
 use Rattle.smooth.proofs.Written.{in-air}
 use Rattle.smooth.proofs.After.{inAir-length}
-use Rattle.fields.specs.Fields.{x-of, p-of, z-of, r-of, t-of}
+use Rattle.fields.specs.Fields.{p-of, z-of, t-of}
 use Rattle.fields.specs.Entries.{aimNew, fillAt, Aimed}
 use Rattle.fields.proofs.Calm.{plus-scaled, calm, put-front, put-there, put-rest, put-long}
 

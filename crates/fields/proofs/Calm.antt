@@ -1,13 +1,12 @@
 -- Fields that are +0 off air stay so under the updates, which therefore go over all cells; A p over a list that covers the air. Assumes nothing.
-use Prim.Native.Nat.{ℕ, zero, suc, _+_, _-_, _*_, _/_, _%_, _≤_, _<_}
+use Prim.Native.Nat.{ℕ, _+_, _-_, _*_, _%_, _≤_, _<_}
 use mathlib.Core.Path.{_≡_, refl, sym, ap, ap₂, _∙_}
 use mathlib.Core.Bool.{Bool, true, false, cond, false≢true}
 use mathlib.Core.List.{List, _++_, append-assoc}
 use native.Mathlib.Nat.{mul-pos, zero-lt-suc}
 use native.Mathlib.Omega.{arith}
-use borrow.Author.Needs.{needs}
-use lib.ListN.{length, getD, set, take, drop, length-append, length-drop}
-use lib.Seq.{getD-take, getD-drop, take-at, drop-at, drop-set-add, take-set-le, length-take-le, drop-drop}
+use lib.ListN.{length, set, take, drop, length-append, length-drop}
+use lib.Seq.{getD-take, take-at, drop-at, drop-set-add, take-set-le, length-take-le, drop-drop}
 use lib.IntN.{ℤ}
 use lib.Ieee as Ieee
 use lib.Ieee.{Float, nan, inf, fin, binary64, unlike, down, round, sum, add, sub, mul, neg}
@@ -16,7 +15,7 @@ use lib.Ieee.Scale.{round-same}
 use Rattle.laws.specs.Binary64.{_⊕_, _⊖_, _⊗_, +0}
 use Rattle.laws.specs.Loops.{up}
 use Rattle.laws.specs.Lists.{tab}
-use Rattle.laws.proofs.Loops.{Up, up-none, up-more, up-end}
+use Rattle.laws.proofs.Loops.{Up, up-more, up-end}
 use Rattle.laws.proofs.Lists.{length-tab, getD-tab}
 use Rattle.laws.proofs.Fill.{filled, tab-same, part-take}
 use Rattle.laws.proofs.Zeros.{dot-zeros}
@@ -24,15 +23,15 @@ use Rattle.method.specs.declared.Sides.{Sides}
 use Rattle.method.specs.Cast.{cells, isAir}
 use Rattle.method.specs.Levels.{value, inAir}
 use Rattle.method.specs.Cycle.{applied}
-use Rattle.method.specs.Rounds.{dot, direction, finite}
+use Rattle.method.specs.Rounds.{dot, finite}
 use Rattle.theory.specs.Quiet.{Quiet}
 use Rattle.grid.specs.Entries.{cellsOf}
 use Rattle.smooth.specs.Entries.{Entry, AllRead, Entries, AirEntries}
 use Rattle.smooth.specs.Written.{writeAt, written, Covers}
 use Rattle.smooth.proofs.StencilLaws.{field-at, beyond, zero-stays}
 use Rattle.smooth.proofs.Written.{in-air}
-use Rattle.fields.specs.Fields.{x-of, p-of, z-of, r-of, t-of}
-use Rattle.fields.specs.Entries.{dotAll, advanceNew, reduceNew, aimNew, fillAt, appliedNew, Aimed}
+use Rattle.fields.specs.Fields.{x-of, p-of, r-of, t-of}
+use Rattle.fields.specs.Entries.{dotAll, advanceNew, reduceNew, fillAt, appliedNew}
 
 -- ---- a finite number times +0, added to +0 or taken from it
 scaled-zero : (s : Bool) (m : ℕ) (e : ℤ) → fin s m e ⊗ +0 ≡ round binary64 (unlike s false) 0 1

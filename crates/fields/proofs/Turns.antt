@@ -1,20 +1,15 @@
 -- The kernels at one cell, by its label. Assumes nothing.
-use Prim.Native.Nat.{ℕ, zero, suc, _+_, _-_, _*_, _<_}
-use mathlib.Core.Path.{_≡_, refl, ap₂, _∙_}
+use Prim.Native.Nat.{ℕ, zero, suc, _+_, _-_, _<_}
+use mathlib.Core.Path.{_≡_, refl}
 use mathlib.Core.Bool.{cond}
 use mathlib.Core.List.{List}
-use native.Mathlib.Omega.{arith}
 use borrow.Author.Needs.{needs}
-use lib.ListN.{length, getD, set, take, drop}
+use lib.ListN.{length, getD, set}
 use lib.Ieee.{Float}
 use Rattle.laws.specs.Binary64.{_⊕_, _⊗_, +0}
-use Rattle.method.specs.declared.Sides.{Sides}
 use Rattle.method.specs.Cast.{isAir}
-use Rattle.method.specs.Levels.{value}
-use Rattle.method.specs.Cycle.{applied}
 use Rattle.method.specs.Rounds.{direction}
 use Rattle.grid.proofs.Steps.{air-yes, air-no}
-use Rattle.fields.specs.Turns.{dotTurn, applyTurn}
 
 -- ---- the direction, by the number of rounds done
 pub first-round : (done : ℕ) (beta z p : Float) → done ≡ 0 → z ≡ direction done beta z p
@@ -28,13 +23,6 @@ later-round (suc k) beta z p h = refl
 
 -- ---- by the cell's label
 module _ (ls : List ℕ) (c : ℕ) (h : c < length ls) where
-  -- a sum
-  pub sum-air : (a b : List Float) (s : Float) → getD ls c 0 ≡ 0 → s ⊕ value a c ⊗ value b c ≡ dotTurn ls a b c s
-  sum-air a b s e = rw (air-yes ls c h e)
-
-  pub sum-other : (a b : List Float) (s : Float) → (getD ls c 0 ≡ 0 → ⊥) → s ≡ dotTurn ls a b c s
-  sum-other a b s e = rw (air-no ls c h e)
-
   -- a store at place m of the room
   module _ (r : List Float) (m : ℕ) where
     pub stores : (x : Float) → getD ls c 0 ≡ 0 → set r m x ≡ set r m (cond (isAir ls c) x +0)
@@ -46,12 +34,4 @@ module _ (ls : List ℕ) (c : ℕ) (h : c < length ls) where
     pub clears : (y : Float) → (getD ls c 0 ≡ 0 → ⊥) → set r m +0 ≡ set r m (cond (isAir ls c) y +0)
     clears y e = rw (air-no ls c h e)
 
-  -- A p, of the part that holds p
-  pub applies : (g : Sides) (r : List Float) (v : Float) → getD ls c 0 ≡ 0
-      → v ≡ applied g ls (take (1 * length ls + length ls - 1 * length ls) (drop (1 * length ls) r)) c → set r (4 * length ls + c) v ≡ applyTurn g ls c r
-  applies g r v e q =
-      let n : 1 * length ls + length ls - 1 * length ls ≡ length ls = omega arith in
-      let k : 1 * length ls ≡ length ls = omega arith in
-      stores-as r (4 * length ls + c) v (applied g ls (take (length ls) (drop (length ls) r)) c) e (q ∙ ap₂ (λ m k. applied g ls (take m (drop k r)) c) n k)
-
-pub ruleset cell = (needs, first-round, later-round, sum-air, sum-other, stores, stores-as, clears, applies)
+pub ruleset cell = (needs, first-round, later-round, stores, stores-as, clears)

@@ -9,7 +9,7 @@ ghost use Rattle.method.specs.declared.Sides.{Sides};
 ghost use Rattle.method.specs.Cast.{cells};
 ghost use Rattle.method.specs.Levels.{value, inAir};
 ghost use Rattle.method.specs.Cycle.{applied};
-ghost use Rattle.method.specs.Rounds.{dot, direction, finite};
+ghost use Rattle.method.specs.Rounds.{dot, finite};
 ghost use Rattle.theory.specs.Quiet.{Quiet};
 ghost use Rattle.grid.specs.Entries.{cellsOf};
 ghost use Rattle.smooth.specs.Entries.{Reads, Entry, AllRead, Entries, AirEntries, InCells};

@@ -1,7 +1,7 @@
 -- The sum that a kernel makes by an entry, and sweeps over entries. Assumes nothing.
-use Prim.Native.Nat.{ℕ, zero, suc, _+_, _-_, _*_, _/_, _%_, _≤_, _<_, suc-le-suc}
+use Prim.Native.Nat.{ℕ, suc, _+_, _-_, _*_, _/_, _%_, _≤_, _<_, suc-le-suc}
 use mathlib.Core.Path.{_≡_, refl, sym, ap, ap₂, _∙_}
-use mathlib.Core.Logic.{_⊎_, inl, inr, ⊎-elim}
+use mathlib.Core.Logic.{_⊎_, ⊎-elim}
 use mathlib.Core.Bool.{Bool, true, false, cond}
 use mathlib.Core.List.{List, [], _∷_, _++_, map}
 use native.Mathlib.Omega.{arith}
@@ -13,18 +13,18 @@ use borrow.Author.Needs.{needs}
 use borrow.Author.Tests.{eqb-true, eq-eqb, ne-eqb}
 use Rattle.laws.specs.Binary64.{_⊕_, _⊖_, _⊗_, _⊘_, +0, ofℕ}
 use Rattle.laws.specs.Lists.{over}
-use Rattle.laws.specs.Loops.{up, down}
+use Rattle.laws.specs.Loops.{down}
 use Rattle.laws.proofs.Naturals.{le-or-lt}
 use Rattle.laws.proofs.Loops.{Up, up-none, up-more, up-end, Down, down-none, down-more, down-end}
 use Rattle.laws.proofs.Lists.{getD-any}
 use Rattle.laws.proofs.Zeros.{Plain, plain-zero, plain-sum, plus-zero}
 use Rattle.method.specs.declared.Sides.{Sides}
-use Rattle.method.specs.Cast.{Axis, axes, along, cells, isAir, noWall, labelAt, back, on, beside, around, degree}
+use Rattle.method.specs.Cast.{Axis, axes, along, cells, isAir, labelAt, back, on, beside, around, degree}
 use Rattle.method.specs.Levels.{value}
 use Rattle.method.specs.Cycle.{airSum, ascending, descending}
 use Rattle.theory.specs.Waves.{waves}
 use Rattle.theory.proofs.Sides.{Fit, x-axis, y-axis, z-axis}
-use Rattle.theory.proofs.Neighbours.{Good, axes-good, back-yes, back-no, back-far, on-yes, on-no}
+use Rattle.theory.proofs.Neighbours.{back-yes, back-no, back-far, on-yes, on-no}
 use Rattle.theory.proofs.Waves.{waves-below, waves-pass}
 use Rattle.grid.proofs.Steps.{cells-most}
 use Rattle.grid.specs.Entries.{one, entryOf, cellOf, cellsOf}

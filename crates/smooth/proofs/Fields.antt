@@ -1,10 +1,10 @@
 -- What the loops over all cells make of the fields. Assumes nothing.
-use Prim.Native.Nat.{ℕ, _+_, _*_, _≤_, _<_}
+use Prim.Native.Nat.{ℕ, _+_, _*_, _≤_}
 use mathlib.Core.Path.{_≡_, refl, sym, ap, ap₂, _∙_}
 use mathlib.Core.List.{List, _++_, append-assoc}
 use native.Mathlib.Omega.{arith}
-use lib.ListN.{length, set, take, drop, length-drop, take-append-drop}
-use lib.Seq.{getD-set-other, take-set-le, drop-set-lt, drop-set-add, take-add, drop-drop, take-at, drop-at, length-take-le}
+use lib.ListN.{length, take, drop, length-drop, take-append-drop}
+use lib.Seq.{getD-set-other, take-add, drop-drop, take-at, drop-at, length-take-le}
 use lib.Ieee.{Float, nan}
 use Rattle.laws.specs.Binary64.{+0}
 use Rattle.laws.specs.Loops.{up}
@@ -13,9 +13,9 @@ use Rattle.laws.proofs.Loops.{ups}
 use Rattle.laws.proofs.Fills.{tab-take, filled, filled-front}
 use Rattle.method.specs.declared.Sides.{Sides}
 use Rattle.method.specs.Cast.{cells}
-use Rattle.method.specs.Levels.{value, inAir}
-use Rattle.method.specs.Cycle.{jacobi, residue, zeros}
-use Rattle.smooth.specs.Fields.{u-of, b-of, t-of, Laid, jacobiValue, residueValue, jacobiTurn, residueTurn, keepTurn, clearTurn, clearFromTurn}
+use Rattle.method.specs.Levels.{value}
+use Rattle.method.specs.Cycle.{jacobi, zeros}
+use Rattle.smooth.specs.Fields.{u-of, b-of, t-of, Laid, keepTurn, clearTurn, clearFromTurn}
 
 -- ---- u becomes zero
 pub clear-is : (n : ℕ) (s t : List Float) → n ≤ length s → t ≡ up clearTurn n s → t ≡ tab n (λ c. +0) ++ drop n s
@@ -35,43 +35,11 @@ keep-is n s t h e =
     e ∙ filled (keepTurn n) (λ c r. value r c) (2 * n) n s (λ c r. refl) (λ c i x r a b. getD-set-other r (2 * n + i) c x nan (λ p. omega arith)) (omega arith)
     ∙ ap₂ (λ v m. take (2 * n) s ++ (v ++ drop m s)) (tab-take n s nan (omega arith)) three
 
--- ---- Jacobi from t
-jacobi-unread : (g : Sides) (ls : List ℕ) (c i : ℕ) (x : Float) (r : List Float) → i < cells g → jacobiValue g ls c (set r i x) ≡ jacobiValue g ls c r
-unfolding jacobiValue
-jacobi-unread g ls c i x r h = rw (drop-set-lt (cells g) r i x h, drop-set-lt (2 * cells g) r i x (omega arith))
-
-pub jacobi-all-is : (g : Sides) (ls : List ℕ) (s t : List Float) → length ls ≡ cells g → 3 * cells g ≤ length s → t ≡ up (jacobiTurn g ls) (length ls) s
-    → t ≡ jacobi g ls (b-of (cells g) s) (t-of (cells g) s) ++ drop (cells g) s
-unfolding jacobi inAir jacobiValue
-jacobi-all-is g ls s t k h e =
-    e ∙ ap (λ n. up (jacobiTurn g ls) n s) k
-    ∙ filled-front (jacobiTurn g ls) (jacobiValue g ls) (cells g) s (λ c r. refl) (λ c i x r a b. jacobi-unread g ls c i x r b) (omega arith)
-
--- ---- the residual into t
-residue-unread : (g : Sides) (ls : List ℕ) (c i : ℕ) (x : Float) (r : List Float) → residueValue g ls c (set r (2 * cells g + i) x) ≡ residueValue g ls c r
-unfolding residueValue
-residue-unread g ls c i x r =
-    let n = cells g in
-    let far : 2 * cells g + i ≡ cells g + (cells g + i) = omega arith in
-    let in-b : b-of (cells g) (set r (2 * cells g + i) x) ≡ b-of (cells g) r =
-    ap (λ m. take (cells g) (drop (cells g) (set r m x))) far ∙ ap (take (cells g)) (drop-set-add (cells g) r (cells g + i) x) ∙ take-set-le (cells g) (drop (cells g) r) (cells g + i) x (omega arith) in
-    rw (in-b, take-set-le (cells g) r (2 * cells g + i) x (omega arith))
-
 -- the first two fields, by name
 pub fields : (n : ℕ) (s r : List Float) → take (2 * n) s ++ r ≡ u-of n s ++ (b-of n s ++ r)
 fields n s r =
     let two : 2 * n ≡ n + n = omega arith in
     ap (λ m. take m s ++ r) two ∙ ap (λ l. l ++ r) (take-add n n s) ∙ append-assoc (take n s) (take n (drop n s)) r
-
-pub residual-is : (g : Sides) (ls : List ℕ) (s t : List Float) → length ls ≡ cells g → 3 * cells g ≤ length s → t ≡ up (residueTurn g ls) (length ls) s
-    → t ≡ u-of (cells g) s ++ (b-of (cells g) s ++ (residue g ls (b-of (cells g) s) (u-of (cells g) s) ++ drop (3 * cells g) s))
-unfolding residue inAir residueValue
-residual-is g ls s t k h e =
-    let three : 2 * cells g + cells g ≡ 3 * cells g = omega arith in
-    e ∙ ap (λ n. up (residueTurn g ls) n s) k
-    ∙ filled (residueTurn g ls) (residueValue g ls) (2 * cells g) (cells g) s (λ c r. refl) (λ c i x r a b. residue-unread g ls c i x r) (omega arith)
-    ∙ ap (λ m. take (2 * cells g) s ++ (residue g ls (b-of (cells g) s) (u-of (cells g) s) ++ drop m s)) three
-    ∙ fields (cells g) s (residue g ls (b-of (cells g) s) (u-of (cells g) s) ++ drop (3 * cells g) s)
 
 -- ---- the fields of a room that is laid out
 pub laid : (n : ℕ) (s : List Float) → 3 * n ≤ length s → Laid n (u-of n s) (b-of n s) (t-of n s) (drop (3 * n) s) s
@@ -114,14 +82,4 @@ pub jacobi-from : (g : Sides) (ls : List ℕ) (n : ℕ) (u b r m : List Float) �
     → jacobi g ls (b-of n m) (t-of n m) ++ drop n m ≡ jacobi g ls b u ++ (b ++ (u ++ r))
 jacobi-from g ls n u b r m l = rw (laid-b l, laid-t l, laid-rest l)
 
-pub jacobi-is : (g : Sides) (ls : List ℕ) (n : ℕ) (s m t : List Float) → n ≡ cells g → 3 * cells g ≤ length s
-    → m ≡ take (2 * n) s ++ (take n s ++ drop (3 * n) s)
-    → t ≡ jacobi g ls (b-of (cells g) m) (t-of (cells g) m) ++ drop (cells g) m
-    → t ≡ jacobi g ls (b-of (cells g) s) (u-of (cells g) s) ++ (b-of (cells g) s ++ (u-of (cells g) s ++ drop (3 * cells g) s))
-jacobi-is g ls n s m t h k a e =
-    let a′ : m ≡ take (2 * cells g) s ++ (take (cells g) s ++ drop (3 * cells g) s) = a ∙ ap (λ k. take (2 * k) s ++ (take k s ++ drop (3 * k) s)) h in
-    let l = laid (cells g) s k in
-    e ∙ jacobi-from g ls (cells g) (u-of (cells g) s) (b-of (cells g) s) (drop (3 * cells g) s) m
-    (record { is = a′ ∙ fields (cells g) s (u-of (cells g) s ++ drop (3 * cells g) s); u-length = l .u-length; b-length = l .b-length; t-length = l .u-length })
-
-pub ruleset fills = (ups, clear-is, clear-from-is, zeros-is, keep-is, jacobi-all-is, residual-is, jacobi-is)
+pub ruleset fills = (ups, clear-is, clear-from-is, zeros-is, keep-is)

@@ -3,7 +3,6 @@ pub mod Sums
 pub mod Turns
 pub mod Fields
 pub mod Written
-pub mod Covered
 pub mod Sweeps
 pub mod After
 pub mod EntryLaws

@@ -1,7 +1,6 @@
 -- The kernels over entries, at one cell and over a list that covers the air: Jacobi, Jacobi from zero, the residual. Assumes nothing.
 use Prim.Native.Nat.{ℕ, _+_, _-_, _*_, _/_, _%_, _^_, _≤_, _<_}
-use mathlib.Core.Path.{_≡_, refl, sym, ap, ap₂, _∙_}
-use mathlib.Core.Bool.{true, false}
+use mathlib.Core.Path.{_≡_, sym, ap, ap₂, _∙_}
 use mathlib.Core.List.{List, _++_}
 use native.Mathlib.Omega.{arith}
 use borrow.Author.Needs.{needs}
@@ -10,15 +9,13 @@ use lib.ListN.{length, getD, set, take, drop, length-append, length-drop}
 use lib.Seq.{getD-take, getD-drop, drop-set-lt, take-set-le, drop-set-add}
 use lib.Ieee.{Float, nan, binary64, fits, ofBits, div}
 use Rattle.laws.specs.Binary64.{_⊕_, _⊖_, _⊗_, _⊘_, +0, ofℕ}
-use Rattle.laws.specs.Loops.{up}
-use Rattle.laws.specs.Lists.{tab, over}
+use Rattle.laws.specs.Lists.{tab}
 use Rattle.laws.proofs.Loops.{Up, up-none, up-more, up-end}
 use Rattle.laws.proofs.Lists.{length-tab, getD-tab}
-use Rattle.laws.proofs.Fill.{tab-same}
 use Rattle.laws.proofs.Zeros.{over-none, jacobi-from-zero}
 use Rattle.method.specs.declared.Sides.{Sides}
 use Rattle.method.specs.Cast.{cells, isAir, degree, around}
-use Rattle.method.specs.Levels.{value, inAir}
+use Rattle.method.specs.Levels.{value}
 use Rattle.method.specs.Cycle.{airSum, applied, rest, change, jacobi, residue, zeros}
 use Rattle.theory.specs.Quiet.{Quiet}
 use Rattle.grid.specs.Entries.{cellsOf}

@@ -1,26 +1,22 @@
 -- The kernels at one cell of the room are the meaning's at one cell of the fields. Assumes nothing.
-use Prim.Native.Nat.{ℕ, _+_, _-_, _*_, _≤_, _<_}
+use Prim.Native.Nat.{ℕ, _+_, _-_, _≤_, _<_}
 use mathlib.Core.Path.{_≡_, refl, sym, ap, ap₂, _∙_}
 use mathlib.Core.Bool.{cond}
 use mathlib.Core.List.{List, _++_}
 use native.Mathlib.Omega.{arith}
-use borrow.Author.Needs.{needs}
 use lib.ListN.{length, getD, take, drop, set, length-drop, take-append-drop}
 use lib.Seq.{take-all, getD-take, getD-drop, take-set-lt, drop-set-lt}
 use lib.Ieee.{Float, nan, binary64, ofBits, div}
-use Rattle.laws.specs.Binary64.{_⊕_, _⊖_, _⊗_, _⊘_, +0, ofℕ}
+use Rattle.laws.specs.Binary64.{_⊕_, _⊖_, _⊗_, _⊘_, ofℕ}
 use Rattle.method.specs.declared.Sides.{Sides}
 use Rattle.method.specs.Cast.{cells, degree}
 use Rattle.method.specs.Levels.{value}
 use Rattle.method.specs.Cycle.{airSum, applied, rest, change, relaxed}
-use Rattle.grid.proofs.Steps.{air-yes, air-no}
-use Rattle.smooth.specs.Fields.{u-of, b-of, t-of, relaxTurn, jacobiValue, residueValue, jacobiTurn, residueTurn}
-use Rattle.smooth.proofs.Sums.{value-front, airSum-front, airSum-take}
+use Rattle.grid.proofs.Steps.{air-yes}
+use Rattle.smooth.specs.Fields.{u-of, b-of, relaxTurn}
+use Rattle.smooth.proofs.Sums.{airSum-take}
 
 -- ---- A u and b - A u, from what was gathered and from the fields in the room
-pub d-is : (k d : ℕ) → k ≡ d → ofℕ k ≡ ofℕ d
-d-is k d e = ap ofℕ e
-
 pub applied-is : (g : Sides) (ls : List ℕ) (u : List Float) (c k : ℕ) (s : Float) → k ≡ degree g ls c → s ≡ airSum g ls u c
     → ofℕ k ⊗ value u c ⊖ s ≡ applied g ls u c
 unfolding applied
@@ -43,10 +39,6 @@ two-thirds = refl
 pub applied-take : (g : Sides) (ls : List ℕ) (n : ℕ) (r : List Float) (c : ℕ) → length ls ≤ n → c < n → applied g ls (take n r) c ≡ applied g ls r c
 unfolding applied
 applied-take g ls n r c h l = ap₂ (λ x s. ofℕ (degree g ls c) ⊗ x ⊖ s) (getD-take n r c nan l) (airSum-take g ls n r c h)
-
-pub applied-front : (g : Sides) (ls : List ℕ) (u r : List Float) (c : ℕ) → length ls ≤ length u → c < length u → applied g ls (u ++ r) c ≡ applied g ls u c
-unfolding applied
-applied-front g ls u r c h l = ap₂ (λ x s. ofℕ (degree g ls c) ⊗ x ⊖ s) (value-front u r c l) (airSum-front g ls u r c h)
 
 pub set-front : (n : ℕ) (r : List Float) (c : ℕ) (x : Float) → c < n → set r c x ≡ set (take n r) c x ++ drop n r
 set-front n r c x h = sym (take-append-drop n (set r c x)) ∙ ap₂ _++_ (take-set-lt n r c x h) (drop-set-lt n r c x h)
@@ -73,39 +65,3 @@ module _ (g : Sides) (ls : List ℕ) (c : ℕ) (e : List Float) (len : length ls
       ∙ ap (λ x. set (u-of (cells g) e) c x ++ drop (cells g) e) (ap₂ _⊕_ (sym (getD-take (cells g) e c nan l)) (change-of e k h))
       ∙ ap (λ t. cond t (set (u-of (cells g) e) c (value (u-of (cells g) e) c ⊕ change g ls (b-of (cells g) e) (u-of (cells g) e) c)) (u-of (cells g) e) ++ drop (cells g) e)
       (sym (air-yes ls c (omega arith) a))
-
-  old-at : getD e (2 * length ls + c) nan ≡ value (t-of (cells g) e) c
-  old-at = ap (λ n. getD e (2 * n + c) nan) len ∙ sym (getD-take (cells g) (drop (2 * cells g) e) c nan l ∙ getD-drop (2 * cells g) e c nan)
-
-  pub jacobi-air : {r d : Float} → getD ls c 0 ≡ 0 → d ≡ ofℕ (degree g ls c)
-      → r ≡ getD e (length ls + c) nan ⊖ applied g ls (take (length e - 2 * length ls) (drop (2 * length ls) e)) c
-      → set e c (getD e (2 * length ls + c) nan ⊕ div binary64 (ofBits binary64 4611686018427387904) (ofBits binary64 4613937818241073152) ⊗ (r ⊘ d))
-      ≡ jacobiTurn g ls c e
-  unfolding jacobiValue
-  jacobi-air {r} {d} a k h =
-      let old : take (length e - 2 * length ls) (drop (2 * length ls) e) ≡ drop (2 * cells g) e = part-is e (2 * length ls) ∙ ap (λ n. drop (2 * n) e) len in
-      let h′ : r ≡ getD e (length ls + c) nan ⊖ applied g ls (drop (2 * cells g) e) c = h ∙ ap (λ v. getD e (length ls + c) nan ⊖ applied g ls v c) old in
-      ap (λ q. set e c (getD e (2 * length ls + c) nan ⊕ q ⊗ (r ⊘ d))) two-thirds
-      ∙ ap (set e c)
-      (ap₂ (λ x y. x ⊕ (ofℕ 2 ⊘ ofℕ 3) ⊗ y) old-at (change-of (drop (2 * cells g) e) k h′)
-      ∙ ap (λ t. cond t (value (t-of (cells g) e) c ⊕ (ofℕ 2 ⊘ ofℕ 3) ⊗ change g ls (b-of (cells g) e) (t-of (cells g) e) c) +0) (sym (air-yes ls c (omega arith) a)))
-
-  pub jacobi-other : (getD ls c 0 ≡ 0 → ⊥) → set e c +0 ≡ jacobiTurn g ls c e
-  unfolding jacobiValue
-  jacobi-other a =
-      ap (set e c)
-      (ap (λ t. cond t (value (t-of (cells g) e) c ⊕ (ofℕ 2 ⊘ ofℕ 3) ⊗ change g ls (b-of (cells g) e) (t-of (cells g) e) c) +0) (sym (air-no ls c (omega arith) a)))
-
-  pub residue-air : {r : Float} → getD ls c 0 ≡ 0 → r ≡ getD e (length ls + c) nan ⊖ applied g ls e c → set e (2 * length ls + c) r ≡ residueTurn g ls c e
-  unfolding residueValue
-  residue-air {r} a h =
-      ap₂ (λ n x. set e (2 * n + c) x) len
-      (rest-of e h ∙ ap (λ t. cond t (rest g ls (b-of (cells g) e) (u-of (cells g) e) c) +0) (sym (air-yes ls c (omega arith) a)))
-
-  pub residue-other : (getD ls c 0 ≡ 0 → ⊥) → set e (2 * length ls + c) +0 ≡ residueTurn g ls c e
-  unfolding residueValue
-  residue-other a =
-      ap₂ (λ n x. set e (2 * n + c) x) len
-      (ap (λ t. cond t (rest g ls (b-of (cells g) e) (u-of (cells g) e) c) +0) (sym (air-no ls c (omega arith) a)))
-
-pub ruleset turns = (needs, d-is, applied-is, rest-is, jacobi-air, jacobi-other, residue-air, residue-other)

@@ -1,15 +1,14 @@
 -- The three fields of a level in one room: u, b, and t, which is scratch.
 use Prim.Native.Nat.{ℕ, _+_, _*_, _≤_}
 use mathlib.Core.Path.{_≡_}
-use mathlib.Core.Bool.{cond}
 use mathlib.Core.List.{List, _++_}
 use lib.ListN.{length, take, drop, set}
 use lib.Ieee.{Float}
-use Rattle.laws.specs.Binary64.{_⊕_, _⊗_, _⊘_, +0, ofℕ}
+use Rattle.laws.specs.Binary64.{+0}
 use Rattle.method.specs.declared.Sides.{Sides}
 use Rattle.method.specs.Cast.{cells, isAir}
 use Rattle.method.specs.Levels.{value}
-use Rattle.method.specs.Cycle.{rest, change, relaxed}
+use Rattle.method.specs.Cycle.{relaxed}
 use Rattle.theory.proofs.Sides.{Fit}
 
 abbrev pub u-of : ℕ → List Float → List Float
@@ -38,22 +37,6 @@ pub record Laid (n : ℕ) (u b t r : List Float) (room : List Float) : Type 0 wh
 -- Gauss-Seidel
 abbrev pub relaxTurn : Sides → List ℕ → ℕ → List Float → List Float
 relaxTurn g ls c r = relaxed g ls (isAir ls) (b-of (cells g) r) c (u-of (cells g) r) ++ drop (cells g) r
-
--- Jacobi, from the old u in t
-unfoldable pub jacobiValue : Sides → List ℕ → ℕ → List Float → Float
-jacobiValue g ls c r =
-    let u = t-of (cells g) r in
-    cond (isAir ls c) (value u c ⊕ (ofℕ 2 ⊘ ofℕ 3) ⊗ change g ls (b-of (cells g) r) u c) +0
-
-unfoldable pub residueValue : Sides → List ℕ → ℕ → List Float → Float
-residueValue g ls c r = cond (isAir ls c) (rest g ls (b-of (cells g) r) (u-of (cells g) r) c) +0
-
--- one cell after another
-abbrev pub jacobiTurn : Sides → List ℕ → ℕ → List Float → List Float
-jacobiTurn g ls c r = set r c (jacobiValue g ls c r)
-
-abbrev pub residueTurn : Sides → List ℕ → ℕ → List Float → List Float
-residueTurn g ls c r = set r (2 * cells g + c) (residueValue g ls c r)
 
 -- the old u goes to t; u becomes zero
 abbrev pub keepTurn : ℕ → ℕ → List Float → List Float
