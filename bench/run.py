@@ -3,7 +3,7 @@
 
     python3 bench/run.py [--runs R] [--seconds S] [--sides 8,16,32]
 
-Builds bench/eigen.cpp into target/bench. Installs nothing and says what is missing: g++, Eigen (Debian's libeigen3-dev), or our program (rt check replay)."""
+Builds bench/eigen.cpp into target/bench. Installs nothing and says what is missing: g++, Eigen (Debian's libeigen3-dev), or our library (bash compare/build target/compare)."""
 import argparse
 import os
 import subprocess
@@ -25,8 +25,8 @@ def missing():
     """What has to be there besides Eigen and its compiler, which bench/build looks for."""
     if programs.shutil.which("rt") is None:
         return "rt, the Rattle toolchain"
-    if not os.path.exists(os.path.join(ROOT, "target", "bin", "replay")):
-        return "our program, target/bin/replay: rt check replay"
+    if not os.path.exists(os.path.join(ROOT, "target", "compare", "harness")):
+        return "our library behind its harness, target/compare/harness: bash compare/build target/compare"
     return None
 
 
@@ -62,7 +62,7 @@ def by_eigen(words, whole, options):
 
 def by_ours(whole, runs):
     """The fields of our answer, and the milliseconds of the whole session."""
-    words = programs.command("replay")
+    words = programs.harness("replay")
     fields = dict(line.split("=") for line in replay.blocks_of(programs.run(words, generate.framed(whole)))[0] if "cell=" not in line)
     # timed as compare/replay.py times it, which wants the name of a second program; here it is ours again
     took = replay.session_times({"separate": words}, whole, runs)

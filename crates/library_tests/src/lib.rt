@@ -110,7 +110,15 @@ pub extern "C" fn quetz_test_cycle(
     if floats.len() < 6 * n + 16 {
         return 0;
     }
-    run(floats, bytes, words, labels, sides, levels as usize, times as usize);
+    run(
+        floats,
+        bytes,
+        words,
+        labels,
+        sides,
+        levels as usize,
+        times as usize,
+    );
     1
 }
 

@@ -16,9 +16,10 @@ read-eq r q a s o t p =
     ∙ ap (λ x. record { answer = q .answer; sides = q .sides; order = q .order; settings = q .settings; start = x }) p
 
 pub read-back-one : (bytes : List ℕ) (old : List ℤ) (r q : Read) (x y : List ℤ) → ReadBack bytes old r x → ReadBack bytes old q y → (r ≡ q) × (x ≡ y)
-read-back-one bytes old r q x y a b =
-    (read-eq r q (a .answer ∙ sym (b .answer)) (a .sides ∙ sym (b .sides)) (a .order ∙ sym (b .order)) (a .settings ∙ sym (b .settings)) (a .start ∙ sym (b .start)),
-    a .values ∙ sym (b .values))
+read-back-one bytes old r q x y a b = (
+  read-eq r q (a .answer ∙ sym (b .answer)) (a .sides ∙ sym (b .sides)) (a .order ∙ sym (b .order)) (a .settings ∙ sym (b .settings)) (a .start ∙ sym (b .start)),
+  a .values ∙ sym (b .values),
+)
 
 pub written-by-one : (s : Sides) (n : ℕ) (t : Settings) (ls : List ℕ) (vs : List ℤ) (old : List ℕ) (r q : Written) (x y : List ℕ)
     → WrittenBy s n t ls vs old r x → WrittenBy s n t ls vs old q y → (r ≡ q) × (x ≡ y)

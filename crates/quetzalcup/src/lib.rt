@@ -113,7 +113,14 @@ pub extern "C" fn quetz_write(
         let answer = unordered_answer(sides);
         return Written { answer, count: 0 };
     }
-    session::write(sides, header::order_of(order), settings, labels, values, output)
+    session::write(
+        sides,
+        header::order_of(order),
+        settings,
+        labels,
+        values,
+        output,
+    )
 }
 
 // How many bytes, binary64 and u32 the solver's rooms need for a cast of these sides; 0 where a side is out of range.
