@@ -5,44 +5,22 @@ use libc::STDOUT_FILENO;
 use respond::respond;
 ghost use lib.ListN.{length};
 ghost use Rattle.respond.specs.Responds.{Roomy};
+ghost use Rattle.airway_large.specs.Large.{LargeOf};
 
-// The answer to a session is written to standard output. What is lent has room for so many cells.
+// The answer to the session whose front is handed in is put at the front of the output, and its length comes back.
 fn answer(
     input: &[u8],
-    limit: usize,
     values: &mut [i32],
     pressures: &mut [i64],
     bytes: &mut [u8],
     floats: &mut [f64],
     words: &mut [u32],
     output: &mut [u8],
-)
-    requires { ⌜ Roomy limit (length (now values)) (length (now pressures)) (length (now bytes)) (length (now floats)) (length (now words)) (length (now output)) ⌝ }
+) -> usize
+    requires { ⌜ Roomy 32768 (length (now values)) (length (now pressures)) (length (now bytes)) (length (now floats)) (length (now words)) (length (now output)) ⌝ }
+    ensures { λ r. ⌜ LargeOf (now (input .entry)) (now (output .entry)) (now (output .exit)) r ⌝ }
 {
-    let count = respond(
-        input,
-        limit,
-        values,
-        pressures,
-        bytes,
-        floats,
-        words,
-        output,
-    );
-    io::write_all(STDOUT_FILENO, &output[..count]);
-}
-
-// The same, in rooms for 32,768 cells.
-fn answer_large(
-    input: &[u8],
-    values: &mut [i32; 32768],
-    pressures: &mut [i64; 32768],
-    bytes: &mut [u8; 65552],
-    floats: &mut [f64; 262208],
-    words: &mut [u32; 65536],
-    output: &mut [u8; 852076],
-) {
-    answer(
+    respond(
         input,
         32768,
         values,
@@ -51,7 +29,36 @@ fn answer_large(
         floats,
         words,
         output,
-    );
+    )
+}
+
+// The same, written to standard output.
+fn put(
+    input: &[u8],
+    values: &mut [i32],
+    pressures: &mut [i64],
+    bytes: &mut [u8],
+    floats: &mut [f64],
+    words: &mut [u32],
+    output: &mut [u8],
+)
+    requires { ⌜ Roomy 32768 (length (now values)) (length (now pressures)) (length (now bytes)) (length (now floats)) (length (now words)) (length (now output)) ⌝ }
+{
+    let count = answer(input, values, pressures, bytes, floats, words, output);
+    io::write_all(STDOUT_FILENO, &output[..count]);
+}
+
+// The same, in rooms for 32,768 cells by their types.
+fn put_large(
+    input: &[u8],
+    values: &mut [i32; 32768],
+    pressures: &mut [i64; 32768],
+    bytes: &mut [u8; 65552],
+    floats: &mut [f64; 262208],
+    words: &mut [u32; 65536],
+    output: &mut [u8; 852076],
+) {
+    put(input, values, pressures, bytes, floats, words, output);
 }
 
 fn main() {
@@ -63,7 +70,7 @@ fn main() {
     let mut words = [0u32; 65536];
     let mut output = [0u8; 852076];
     let got = io::read_full(STDIN_FILENO, &mut input);
-    answer_large(
+    put_large(
         &input[..got],
         &mut values,
         &mut pressures,

@@ -1,19 +1,10 @@
--- `airway_large::answer` meets its contract. Assumes nothing.
+-- `airway_large::answer` meets its contract: what `respond` puts. Assumes nothing.
 use Rattle.airway_large.proofs.Laws.{rooms}
 use Rattle.airway_large.proofs.answer.Statement.{statement}
 use Rattle.airway_large.proofs.answer.Tie as tie
 
 respond-requires : tie.Need-respond-requires
 respond-requires c κs = search rooms
-
-slice-reshare-prefix-write-all : tie.Need-slice-reshare-prefix-write-all
-slice-reshare-prefix-write-all c = search rooms
-
-slice-aggregate-write-all : tie.Need-slice-aggregate-write-all
-slice-aggregate-write-all c = search rooms
-
-write-all-requires : tie.Need-write-all-requires
-write-all-requires c κs = search rooms
 
 same-length : tie.Need-same-length
 same-length c = search rooms
@@ -41,9 +32,6 @@ answer-spec =
     tie.close
     (tie.spec
     respond-requires
-    slice-reshare-prefix-write-all
-    slice-aggregate-write-all
-    write-all-requires
     same-length
     same-length-2
     same-length-3
