@@ -26,10 +26,10 @@ add-cell-requires-4 : tie.Need-add-cell-requires-4
 add-cell-requires-4 c κs = search needs
 
 returns : tie.Need-returns
-returns c = search (needs, two-even)
+returns c = search two-even
 
 returns-2 : tie.Need-returns-2
-returns-2 c = search (needs, two-odd)
+returns-2 c = search two-odd
 
 pub two-at-spec : {M : Type 1} → statement M
 two-at-spec =
