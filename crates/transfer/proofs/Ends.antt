@@ -6,7 +6,6 @@ use mathlib.Core.Bool.{Bool, true, false, cond}
 use mathlib.Core.List.{List, _++_, append-assoc}
 use native.Mathlib.Nat.{zero-add}
 use native.Mathlib.Omega.{arith}
-use borrow.Author.Needs.{needs}
 use borrow.Author.Tests.{eq-eqb, ne-eqb}
 use lib.Dec.{eqb}
 use lib.ListN.{length, getD, set, take, drop}
@@ -26,7 +25,6 @@ use Rattle.theory.specs.Quiet.{Quiet}
 use Rattle.grid.proofs.Steps.{label-in}
 use Rattle.transfer.specs.Transfer.{TwoLevels, restrictedRoom, summed, correctedRoom}
 use Rattle.transfer.specs.Rows.{Stretch, drawnSum, givenSum, Sums, overAt, overStep, plusAt, plusStep}
-use Rattle.transfer.proofs.Laws.{zero-bits, over-512, over-16}
 use Rattle.transfer.proofs.Stretch.{stretch-front, stretch-end, stretch-long, stretch-cell, stretch-again, stretch-same, stretch-filled, value-left, value-front}
 use Rattle.transfer.proofs.Plain.{drawn-sum, given-sum}
 use Rattle.transfer.proofs.Sums.{two-sums, sums}
@@ -55,8 +53,6 @@ over-set lc o c e v q = ap (set e (o + c)) q
 
 pub plus-set : (ls : List ℕ) (c : ℕ) (e : List Float) (v : Float) → v ≡ plusAt (getD ls c 0) (getD e c nan) (getD e (2 * length ls + c) nan) → set e c v ≡ plusStep ls c e
 plus-set ls c e v q = ap (set e c) q
-
-pub ruleset values = (needs, over-air, over-other, plus-air, plus-other, zero-bits, over-512, over-16)
 
 -- the label of a cell says whether it is air
 air-is : (ls : List ℕ) (c : ℕ) → c < length ls → eqb (getD ls c 0) 0 ≡ isAir ls c

@@ -126,7 +126,6 @@ module _ (g h : Sides) (n m r : ℕ) (e : List Float) (z : Sums g h n m e) (l : 
       → Stretch (drawnSum g (take (cells g) (drop (2 * n) e))) (3 * n + m) (h .nx * (r + 1)) e t
   drawn-more s t c q =
       let j = h .nx * r in
-      let f : List Float → ℕ → Float = λ u. drawnSum g u in
       let k : h .nx * (r + 1) ≡ h .nx * r + h .nx = ap (λ i. h .nx * i) (add-one r) ∙ mul-suc (h .nx) r in
       let same : take (cells g) (drop (2 * n) s) ≡ take (cells g) (drop (2 * n) e) = stretch-part (omega (arith, coarse-at)) c (2 * n) (cells g) (inl (omega (arith, z .fine))) in
       rw k

@@ -1,5 +1,5 @@
 -- `transfer::prolongation::even_sum` meets its contract: both cells are in the row. Assumes nothing.
-use Rattle.transfer.proofs.RowLaws.{rows}
+use Rattle.transfer.proofs.RowLaws.{even-inside}
 use borrow.Author.Needs.{needs}
 use Rattle.transfer.proofs.prolongation.even_sum.Statement.{statement}
 use Rattle.transfer.proofs.prolongation.even_sum.Tie as tie
@@ -20,7 +20,7 @@ shared-slice-read-result-2 : tie.Need-shared-slice-read-result-2
 shared-slice-read-result-2 c = search needs
 
 returns : tie.Need-returns
-returns c = search rows
+returns c = even-inside _ _ _ _ _ (search needs)
 
 pub even-sum-spec : {M : Type 1} → statement M
 even-sum-spec =

@@ -1,5 +1,5 @@
 -- `transfer::prolongation::sum_row` meets its contract: zeros, then the four coarse rows. Assumes nothing.
-use Rattle.transfer.proofs.Sums.{given-row, sums}
+use Rattle.transfer.proofs.Sums.{fine-spread, given-row, sums}
 use Rattle.transfer.proofs.prolongation.sum_row.Statement.{statement}
 use Rattle.transfer.proofs.prolongation.sum_row.Tie as tie
 
@@ -31,7 +31,10 @@ mul-give-all : tie.Need-mul-give-all
 mul-give-all c = search sums
 
 give-all-requires : tie.Need-give-all-requires
-give-all-requires c κs = search sums
+give-all-requires c κs =
+    let at-clear = c .before .before .before in
+    let start = at-clear .before .before .before .before .before in
+    (fine-spread _ _ _ _ _ _ (start .pre .0) (start .pre .1) _ (at-clear .clear-row .kept .0), start .pre .0 .halves)
 
 same-length : tie.Need-same-length
 same-length c = search sums

@@ -1,5 +1,5 @@
 -- `transfer::prolongation::two_at` meets its contract: by where the fine cell lies. Assumes nothing.
-use Rattle.transfer.proofs.RowLaws.{rows}
+use Rattle.transfer.proofs.RowLaws.{two-even, two-odd}
 use borrow.Author.Needs.{needs}
 use Rattle.transfer.proofs.prolongation.two_at.Statement.{statement}
 use Rattle.transfer.proofs.prolongation.two_at.Tie as tie
@@ -26,10 +26,10 @@ add-cell-requires-4 : tie.Need-add-cell-requires-4
 add-cell-requires-4 c κs = search needs
 
 returns : tie.Need-returns
-returns c = search rows
+returns c = search two-even
 
 returns-2 : tie.Need-returns-2
-returns-2 c = search rows
+returns-2 c = search two-odd
 
 pub two-at-spec : {M : Type 1} → statement M
 two-at-spec =

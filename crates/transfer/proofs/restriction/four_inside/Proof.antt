@@ -1,6 +1,6 @@
 -- `transfer::restriction::four_inside` meets its contract: all four are in the row. Assumes nothing.
 use borrow.Author.Needs.{needs}
-use Rattle.transfer.proofs.RowLaws.{rows}
+use Rattle.transfer.proofs.RowLaws.{four-inside}
 use Rattle.transfer.proofs.restriction.four_inside.Statement.{statement}
 use Rattle.transfer.proofs.restriction.four_inside.Tie as tie
 
@@ -41,7 +41,7 @@ shared-slice-read-result-4 : tie.Need-shared-slice-read-result-4
 shared-slice-read-result-4 c = search needs
 
 returns : tie.Need-returns
-returns c = search rows
+returns c = four-inside _ _ _ _ _ (search needs) (search needs)
 
 pub four-inside-spec : {M : Type 1} → statement M
 four-inside-spec =

@@ -1,13 +1,14 @@
 -- `transfer::restriction::restricted_value` meets its contract, by the label. Assumes nothing.
-use Rattle.transfer.proofs.Ends.{values}
+use Rattle.transfer.proofs.Laws.{zero-bits, over-512}
+use Rattle.transfer.proofs.Ends.{over-air, over-other}
 use Rattle.transfer.proofs.restriction.restricted_value.Statement.{statement}
 use Rattle.transfer.proofs.restriction.restricted_value.Tie as tie
 
 returns : tie.Need-returns
-returns c = search values
+returns c = search (over-air, over-512)
 
 returns-2 : tie.Need-returns-2
-returns-2 c = search values
+returns-2 c = search (over-other, zero-bits)
 
 pub restricted-value-spec : {M : Type 1} → statement M
 restricted-value-spec = tie.close (tie.spec returns returns-2)

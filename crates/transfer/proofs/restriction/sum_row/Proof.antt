@@ -1,5 +1,5 @@
 -- `transfer::restriction::sum_row` meets its contract: zeros, then the sixteen fine rows. Assumes nothing.
-use Rattle.transfer.proofs.Sums.{drawn-row, sums}
+use Rattle.transfer.proofs.Sums.{coarse-spread, drawn-row, sums}
 use Rattle.transfer.proofs.restriction.sum_row.Statement.{statement}
 use Rattle.transfer.proofs.restriction.sum_row.Tie as tie
 
@@ -34,7 +34,10 @@ mul-draw-all : tie.Need-mul-draw-all
 mul-draw-all c = search sums
 
 draw-all-requires : tie.Need-draw-all-requires
-draw-all-requires c κs = search sums
+draw-all-requires c κs =
+    let at-clear = c .before .before .before in
+    let start = at-clear .before .before .before .before .before in
+    (coarse-spread _ _ _ _ _ _ (start .pre .0) (start .pre .1) _ (at-clear .clear-row .kept .0), start .pre .0 .halves)
 
 same-length : tie.Need-same-length
 same-length c = search sums
