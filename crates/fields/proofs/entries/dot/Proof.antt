@@ -37,7 +37,10 @@ loop-less : tie.Need-loop-less Inv-loop μ-loop
 loop-less c = search ups
 
 loop-again : tie.Need-loop-again Inv-loop μ-loop
-loop-again c = (search ups, search (dot-more))
+loop-again c =
+    let at = c .before .before .before in
+    let a = at .before .args in
+    (search ups, dot-more (a .a .now) (a .b .now) (at .loop .c) (at .loop .sum) (at .loop .inv .1))
 
 returns : tie.Need-returns Inv-loop μ-loop
 returns c = dot-quiet (c .before .loop .inv .1) (omega arith) (omega arith)

@@ -58,7 +58,10 @@ loop-less : tie.Need-loop-less Inv-loop μ-loop
 loop-less c = search ups
 
 loop-again : tie.Need-loop-again Inv-loop μ-loop
-loop-again c = (search ups, search ups, search (reduce-more))
+loop-again c =
+    let at = c .before .before .before in
+    let a = at .before .args in
+    (search ups, search ups, reduce-more (a .n) (at .loop .c) (a .alpha) (a .room .now) (at .loop .room) (at .loop .inv .2))
 
 same-length : tie.Need-same-length Inv-loop μ-loop
 same-length c = search ups
