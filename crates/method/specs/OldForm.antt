@@ -66,7 +66,7 @@ twoBytes w = (w / 2 ^ 8 % 256) ∷ (w % 256) ∷ []
 
 -- "A tick value is the stored number times U"; the number that is stored for a value
 unfoldable pub oldValueRead : ℕ → List ℕ → ℤ
-oldValueRead u bs = shortSigned (mostFirst 0 bs) *ᶻ pos u
+oldValueRead u bs = pos u *ᶻ shortSigned (mostFirst 0 bs)
 
 unfoldable pub stored : ℕ → ℤ → ℤ
 stored u (pos n) = pos (n / u)
