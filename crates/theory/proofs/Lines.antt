@@ -70,7 +70,7 @@ to-held end key bs = go (after key bs)
     go (some cs) = refl
 
 -- a line of a key and a number is one up to a line feed
-line-to : (key bs : List ℕ) → numberLine key bs ≡ numberTo (text "\n") key bs
+pub line-to : (key bs : List ℕ) → numberLine key bs ≡ numberTo (text "\n") key bs
 unfolding numberLine held
 line-to key bs = go (after key bs) ∙ sym (to-held (text "\n") key bs)
   where

@@ -5,3 +5,4 @@ pub mod Answered
 pub mod Levels
 pub mod Sessions
 pub mod Waves
+pub mod OldSessions
