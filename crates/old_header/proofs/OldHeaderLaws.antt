@@ -82,7 +82,7 @@ module _ (l : List ℕ) (r : LineRead) (h : LineOf sizePart l r) where
       pub three-fits : (z n : ℕ) → t ≡ Value z n → length l < 2 ^ 64 → Fits w64 (i + j + n)
       three-fits z n u v = record { fits = omega (arith, total z n u) }
 
-pub ruleset sizes = (needs, line-within, size-first, size-second, size-third, size-all)
+pub ruleset sizes = (needs, line-within, size-first, size-second, size-third, size-all, two-fits, three-fits)
 
 -- ---- the unit
 pub header-first : (l : List ℕ) (r : SizeRead) → SizeOf l r → r ≡ NoneSize → OldHeaderOf l (Wrong 1)
