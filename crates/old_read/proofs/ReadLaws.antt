@@ -25,7 +25,7 @@ use Rattle.old_read.specs.declared.Judged.{Judged}
 use Rattle.old_read.specs.declared.Judged.the-variants.{Refused, Passed}
 use Rattle.old_read.specs.declared.Taken.{Taken}
 
-same-verdict : (t : Settings) (bytes : List ℕ) (old : List ℤ) → verdict oldReaderChecks (oldLent t bytes old) ≡ verdict oldReaderChecks (oldAsked t bytes (length old))
+pub same-verdict : (t : Settings) (bytes : List ℕ) (old : List ℤ) → verdict oldReaderChecks (oldLent t bytes old) ≡ verdict oldReaderChecks (oldAsked t bytes (length old))
 unfolding oldReaderChecks oldLineCheck oldSideCheck oldBodyCheck oldRoomCheck oldContentChecks
 same-verdict t bytes old = verdict-agree oldReaderChecks (oldLent t bytes old) (oldAsked t bytes (length old))
     (refl, (refl, (refl, (ap (λ k. fault (ltb k (cells (oldHeader bytes .sides)))) (sym (length-replicate (length old) (pos 0))), (refl, (refl, (refl, tt)))))))
@@ -34,7 +34,7 @@ reading-refused : (q : OldReading) (num place : ℕ) → verdict oldReaderChecks
 unfolding oldReading
 reading-refused q num place e = rw (oldReading, e)
 
-reading-passed : (q : OldReading) → verdict oldReaderChecks q ≡ passed → oldReading q ≡ oldIsRead q
+pub reading-passed : (q : OldReading) → verdict oldReaderChecks q ≡ passed → oldReading q ≡ oldIsRead q
 unfolding oldReading
 reading-passed q e = rw (oldReading, e)
 
