@@ -1,6 +1,7 @@
 /*
- * The separate implementation: document 01's program, written from the
- * document alone, to be compared with the project's own.
+ * The separate implementation: document 01's program with the requests of
+ * document 02 that have landed, written from the documents alone, to be
+ * compared with the project's own.
  *
  *   airway [--room N]            one session on standard input
  *   airway [--room N] --frames   many sessions, each behind a line bytes=N
@@ -42,7 +43,7 @@ enum {
 };
 
 #define RESTRICTION_DIVISOR 512.0
-#define PROLONGATION_DIVISOR 256.0
+#define PROLONGATION_DIVISOR 16.0    /* document 02, wish 4 */
 #define GREATEST_TICK 2199023255552.0   /* 2^41 */
 
 /* ------------------------------------------------------------------ */
@@ -434,15 +435,20 @@ static long count_air(const Level *l)
 /* ------------------------------------------------------------------ */
 /* Whole ticks and the exact residual                                 */
 
-/* "nearest whole tick, halves away from zero"; false: not finite or out of range */
+/* "nearest whole tick", and document 02, wish 3: "a tie goes to the even tick"; false: not finite or out of range.
+ * The whole part, and what is left of x without it, are exact. */
 static bool whole_tick(double x, int64_t *tick)
 {
-    if (!isfinite(x))
+    double size = fabs(x);
+    if (!(size < 2.0 * GREATEST_TICK))
         return false;
-    double rounded = round(x);
-    if (fabs(rounded) > GREATEST_TICK)
+    int64_t low = (int64_t)size;
+    double left = size - (double)low;
+    if (left > 0.5 || (left == 0.5 && low % 2 != 0))
+        low++;
+    if ((double)low > GREATEST_TICK)
         return false;
-    *tick = (int64_t)rounded;
+    *tick = x < 0.0 ? -low : low;
     return true;
 }
 

@@ -282,7 +282,8 @@ def tick_vector(separate, rng):
     near = [rng.randint(-50, 50) + rng.choice([0.5, -0.5, 0.25, 0.49999999999999994]) for _ in range(8)]
     edge = [0.49999999999999994, -0.49999999999999994, 2.0**41, 2.0**41 + 0.25, 2.0**41 + 0.5, -2.0**41 - 0.25, -2.0**41 - 1, 5e-324, 1e300,
             float("inf"), float("-inf"), 2.0**53 + 2]
-    xs = [bits_of(x) for x in near + edge]
+    ties = [rng.choice([1, -1]) * (2.0 ** rng.randint(1, 41) + rng.choice([-0.5, 0.5, 1.5])) for _ in range(8)]
+    xs = [bits_of(x) for x in near + edge + ties]
     want = separate.piece("tick", [1, 1, 1, 0] + xs)
     return Vector("tick", f"map tick {floats(xs)}", listed("Refused" if w == "none" else f"Whole ({whole_term(int(w))})" for w in want), "ticks")
 

@@ -1,25 +1,36 @@
--- The program's rooms are rooms for 1,000 cells, and the print fits its output. Assumes nothing.
+-- The program's promise from that of `respond` with rooms for as many cells as the program has room for. Assumes nothing.
 use mathlib.Core.Path.{_≡_, sym}
 use mathlib.Core.List.{List}
-use Prim.Native.Nat.{ℕ, _≤_}
+use Prim.Native.Nat.{ℕ, _+_, _*_, _≤_}
 use native.Mathlib.Omega.{arith}
-use borrow.Author.Needs.{needs}
 use lib.ListN.{length, take}
 use lib.Seq.{length-take-le}
 use Rattle.method.specs.Answers.{byteNeed, floatNeed, wordNeed}
+use Rattle.method.specs.Program.{programRoom, printed, program}
+use Rattle.prints.proofs.Fronts.{front-prints}
 use Rattle.puts.proofs.PutLaws.{put-length}
 use Rattle.show.specs.Shows.{printRoom, PutShort}
 use Rattle.respond.specs.Responds.{Roomy}
+use Rattle.airway.specs.Programs.{ProgramOf}
 
-pub roomy : Roomy 1000 1000 1000 2016 8064 2000 26108
+-- a part of a slice has as many elements as it was asked for
+pub part-long : (n : ℕ) (xs : List ℕ) → n ≤ length xs → n ≡ length (take n xs)
+part-long n xs h = sym (length-take-le n xs h)
+
+-- the rooms that the program lends, by the cells that it has room for
+pub rooms-for : (n : ℕ) → n ≡ programRoom → Roomy programRoom n n (2 * n + 16) (8 * n + 64) (2 * n) (26 * n + 108)
 unfolding byteNeed floatNeed wordNeed
-roomy = record { values-long = omega arith; pressures-long = omega arith; bytes-long = omega arith; floats-long = omega arith; words-long = omega arith; output-long = omega arith }
+rooms-for n e = record { values-long = omega arith; pressures-long = omega arith; bytes-long = omega arith; floats-long = omega arith; words-long = omega arith; output-long = omega arith }
 
-module _ (limit n a b c d e : ℕ) (bytes old new : List ℕ) (p : PutShort (printRoom limit) bytes old 0 new n) (r : Roomy limit a b c d e (length old)) where
-  pub print-within : n ≤ length new
-  print-within = omega (arith, p .short, r .output-long, put-length (p .puts))
+pub at-limit : {limit values pressures bytes floats words output : ℕ} → limit ≡ programRoom → Roomy programRoom values pressures bytes floats words output
+    → Roomy limit values pressures bytes floats words output
+at-limit e r = rw e r
 
-  pub print-part : n ≡ length (take n new)
-  print-part = sym (length-take-le n new print-within)
+-- the print of what was handed in is that of every input of which it is the front
+module _ (limit : ℕ) (front : List ℕ) {old new : List ℕ} {r : ℕ} (p : PutShort (printRoom limit) (printed limit front) old 0 new r) (e : limit ≡ programRoom) (room : printRoom programRoom ≤ length old) where
+  here : PutShort (printRoom programRoom) (program front) old 0 new r
+  unfolding program
+  here = rw e at p
 
-pub ruleset rooms = (needs, roomy, print-within, print-part)
+  pub program-put : ProgramOf front old new r
+  program-put = record { prints = λ bs f. rw (← front-prints bs front f) here; within = omega (arith, p .short, put-length (p .puts)) }

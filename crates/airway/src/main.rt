@@ -3,47 +3,56 @@
 use libc::STDIN_FILENO;
 use libc::STDOUT_FILENO;
 use respond::respond;
-ghost use lib.ListN.{length};
+ghost use mathlib.Core.Path.{_≡_};
+ghost use Prim.Native.Nat.{_≤_};
+ghost use lib.ListN.{length, take};
+ghost use Rattle.method.specs.Program.{programRoom};
+ghost use Rattle.prints.specs.Prints.{inputRoom};
 ghost use Rattle.respond.specs.Responds.{Roomy};
+ghost use Rattle.airway.specs.Programs.{ProgramOf};
 
-// The answer to a session is written to standard output. What is lent has room for so many cells.
+// How many cells there is room for: `method`'s programRoom, by which all that is lent is measured.
+const LIMIT: usize = 1000;
+
+// The answer to the session whose front was read into the buffer is put at the front of the output, and its length comes back.
 fn answer(
-    input: &[u8],
-    limit: usize,
+    buffer: &[u8],
+    got: usize,
     values: &mut [i32],
     pressures: &mut [i64],
     bytes: &mut [u8],
     floats: &mut [f64],
     words: &mut [u32],
     output: &mut [u8],
-)
-    requires { ⌜ Roomy limit (length (now values)) (length (now pressures)) (length (now bytes)) (length (now floats)) (length (now words)) (length (now output)) ⌝ }
+) -> usize
+    requires { ⌜ (length (now buffer) ≡ inputRoom) × (got ≤ length (now buffer)) ⌝ }
+    requires { ⌜ Roomy programRoom (length (now values)) (length (now pressures)) (length (now bytes)) (length (now floats)) (length (now words)) (length (now output)) ⌝ }
+    ensures { λ r. ⌜ ProgramOf (take got (now (buffer .entry))) (now (output .entry)) (now (output .exit)) r ⌝ }
 {
-    let count = respond(
-        input,
-        limit,
+    respond(
+        &buffer[..got],
+        LIMIT,
         values,
         pressures,
         bytes,
         floats,
         words,
         output,
-    );
-    io::write_all(STDOUT_FILENO, &output[..count]);
+    )
 }
 
 fn main() {
-    let mut input = [0u8; 5095];
-    let mut values = [0i32; 1000];
-    let mut pressures = [0i64; 1000];
-    let mut bytes = [0u8; 2016];
-    let mut floats = [0.0f64; 8064];
-    let mut words = [0u32; 2000];
-    let mut output = [0u8; 26108];
+    let mut input = [0u8; 5 * LIMIT + 95];
+    let mut values = [0i32; LIMIT];
+    let mut pressures = [0i64; LIMIT];
+    let mut bytes = [0u8; 2 * LIMIT + 16];
+    let mut floats = [0.0f64; 8 * LIMIT + 64];
+    let mut words = [0u32; 2 * LIMIT];
+    let mut output = [0u8; 26 * LIMIT + 108];
     let got = io::read_full(STDIN_FILENO, &mut input);
-    answer(
-        &input[..got],
-        1000,
+    let count = answer(
+        &input,
+        got,
         &mut values,
         &mut pressures,
         &mut bytes,
@@ -51,4 +60,5 @@ fn main() {
         &mut words,
         &mut output,
     );
+    io::write_all(STDOUT_FILENO, &output[..count]);
 }

@@ -1,5 +1,6 @@
--- What a caller of `cycle` needs: that the rooms which `all_labels` and `all_lists` leave are prepared, and that the promise is one result. Assumes nothing.
-use Prim.Native.Nat.{ℕ, zero, suc, _+_, _*_, _≤_, _<_}
+-- What a caller of `cycle` needs: that the rooms which `all_labels` and `all_lists` leave are prepared, what a room is with a zero at its end,
+-- and that the promise is one result. Assumes nothing.
+use Prim.Native.Nat.{ℕ, zero, suc, _+_, _-_, _*_, _≤_, _<_}
 use mathlib.Core.Path.{_≡_, refl, sym, ap, ap₂, subst, _∙_}
 use mathlib.Core.Logic.{⊎-elim}
 use mathlib.Core.Bool.{cond}
@@ -8,27 +9,32 @@ use native.Mathlib.Nat.{le-of-suc-le-suc, eq-or-lt-of-le}
 use native.Mathlib.Omega.{arith}
 use borrow.Author.Tests.{lt-ltb}
 use lib.Dec.{ltb}
-use lib.ListN.{length, getD, take, drop, length-append}
-use lib.Seq.{drop-at, take-length}
-use lib.Ieee.{Float}
+use lib.ListN.{length, getD, set, take, drop, length-append, length-set}
+use lib.Seq.{take-at, drop-at, take-length, take-take, take-set-le, getD-set-same}
+use lib.Ieee.{Float, nan}
+use Rattle.laws.specs.Binary64.{+0}
 use Rattle.laws.proofs.Lists.{getD-tab}
+use Rattle.laws.proofs.Fill.{part-take}
 use Rattle.method.specs.declared.Sides.{Sides}
 use Rattle.method.specs.Cast.{cells}
-use Rattle.theory.specs.Levels.{airBefore}
+use Rattle.method.specs.Levels.{value}
+use Rattle.theory.specs.Levels.{sidesAt, labelsAt, airBefore}
 use Rattle.theory.proofs.Sides.{Fit, fits}
 use Rattle.theory.proofs.Sizes.{cells-of-six}
 use Rattle.levels.specs.declared.sides.Levels.{Levels}
 use Rattle.levels.specs.declared.lists.Lists.{Lists}
 use Rattle.levels.specs.Rooms.{written}
 use Rattle.levels.specs.Levels.{base}
+use Rattle.levels.specs.Lists.{listOf, leftOf}
 use Rattle.levels.specs.AllLabels.{LabelsAsked, allLabels}
-use Rattle.levels.specs.AllLists.{baseLabels, listAt, listsBefore, firsts, listsTo, AllListed, ListsAsked}
+use Rattle.levels.specs.AllLists.{baseLabels, listAt, airAt, listsBefore, firsts, listsTo, AllListed, ListsAsked}
 use Rattle.levels.proofs.Calls.{part-left, lists-asked}
 use Rattle.levels.proofs.Labelled.{room-enough}
 use Rattle.smooth.specs.Fields.{u-of, b-of}
-use Rattle.cycle.specs.Strokes.{Put}
+use Rattle.cycle.specs.Strokes.{Ended, Put}
+use Rattle.cycle.proofs.Laws.{end-kept}
 use Rattle.cycle.proofs.Levels.{fields-all}
-use Rattle.cycle.specs.Rooms.{listFrom, Prepared, fieldsFrom, Ready, cellsOf, Cycled}
+use Rattle.cycle.specs.Rooms.{listFrom, airFrom, Prepared, fieldsFrom, Ready, cellsOf, Cycled}
 
 -- ---- each level's list, in the room that `all_lists` leaves
 module _ (g : Sides) (ls : List ℕ) (count : ℕ) where
@@ -36,7 +42,7 @@ module _ (g : Sides) (ls : List ℕ) (count : ℕ) where
   before k = listsBefore g ls count k
 
   abbrev here : ℕ → List ℕ
-  here k = listAt g ls count k
+  here k = airAt g ls count k
 
   lists-inside : (m k : ℕ) → k < m → length (before k) + length (here k) ≤ length (before m)
   unfolding listsBefore
@@ -45,6 +51,18 @@ module _ (g : Sides) (ls : List ℕ) (count : ℕ) where
       (λ e. rw e (omega (arith, length-append (before m) (here m))))
       (λ l. omega (arith, length-append (before m) (here m), lists-inside m k l))
       (eq-or-lt-of-le (le-of-suc-le-suc h))
+
+  -- what is swept stands first
+  swept-first : (k : ℕ) → take (length (listAt g ls count k)) (here k) ≡ listAt g ls count k
+  unfolding listAt airAt
+  swept-first k = take-at (listOf (ltb (k + 1) count) (sidesAt g k) (labelsAt g ls k)) (leftOf (ltb (k + 1) count) (sidesAt g k) (labelsAt g ls k)) _ refl
+
+  swept-within : (k : ℕ) → length (listAt g ls count k) ≤ length (here k)
+  unfolding listAt airAt
+  swept-within k = omega (
+    arith,
+    length-append (listOf (ltb (k + 1) count) (sidesAt g k) (labelsAt g ls k)) (leftOf (ltb (k + 1) count) (sidesAt g k) (labelsAt g ls k)),
+  )
 
   abbrev Part : ℕ → ℕ → Type 0
   Part m k = take (length (here k)) (drop (length (before k)) (before m)) ≡ here k
@@ -74,6 +92,10 @@ module _ (l : Levels) (count : ℕ) (bytes e words : List ℕ) (s : Lists) (a : 
   unfolding listsTo
   count-at k h = ap (λ (t : Lists). getD (t .count) k 0) (p .lists) ∙ first-at (λ j. length (listAt (base l) (baseLabels l bytes) count j)) count k (a .most) h
 
+  air-at : (k : ℕ) → k < count → getD (s .air) k 0 ≡ length (airAt (base l) (baseLabels l bytes) count k)
+  unfolding listsTo
+  air-at k h = ap (λ (t : Lists). getD (t .air) k 0) (p .lists) ∙ first-at (λ j. length (airAt (base l) (baseLabels l bytes) count j)) count k (a .most) h
+
   words-are : words ≡ listsBefore (base l) (baseLabels l bytes) count count ++ drop (0 + length (listsBefore (base l) (baseLabels l bytes) count count)) e
   unfolding written
   words-are = p .room
@@ -85,8 +107,21 @@ module _ (l : Levels) (count : ℕ) (bytes e words : List ℕ) (s : Lists) (a : 
     length-append (listsBefore (base l) (baseLabels l bytes) count count) (drop (0 + length (listsBefore (base l) (baseLabels l bytes) count count)) e),
   )
 
+  air-part : (k : ℕ) → k < count → take (length (airAt (base l) (baseLabels l bytes) count k)) (drop (getD (s .start) k 0) words) ≡ airAt (base l) (baseLabels l bytes) count k
+  air-part k h =
+      ap (λ b. take (length (airAt (base l) (baseLabels l bytes) count k)) (drop b words)) (start-at k h)
+      ∙ ap (λ x. take (length (airAt (base l) (baseLabels l bytes) count k)) (drop (length (listsBefore (base l) (baseLabels l bytes) count k)) x)) words-are
+      ∙ part-left (listsBefore (base l) (baseLabels l bytes) count count) (drop (0 + length (listsBefore (base l) (baseLabels l bytes) count count)) e)
+      (length (listsBefore (base l) (baseLabels l bytes) count k)) (length (airAt (base l) (baseLabels l bytes) count k)) (lists-inside (base l) (baseLabels l bytes) count count k h)
+      ∙ list-part (base l) (baseLabels l bytes) count count k h
+
+  swept-part : (k : ℕ) → k < count → take (length (listAt (base l) (baseLabels l bytes) count k)) (drop (getD (s .start) k 0) words) ≡ listAt (base l) (baseLabels l bytes) count k
+  swept-part k h =
+      sym (take-take (length (listAt (base l) (baseLabels l bytes) count k)) (length (airAt (base l) (baseLabels l bytes) count k)) (drop (getD (s .start) k 0) words) (swept-within (base l) (baseLabels l bytes) count k))
+      ∙ ap (take (length (listAt (base l) (baseLabels l bytes) count k))) (air-part k h) ∙ swept-first (base l) (baseLabels l bytes) count k
+
   pub prepared : Prepared l s count bytes words
-  unfolding listFrom
+  unfolding listFrom airFrom
   prepared = record {
     fit = a .fit;
     laid = a .laid;
@@ -94,13 +129,10 @@ module _ (l : Levels) (count : ℕ) (bytes e words : List ℕ) (s : Lists) (a : 
     most = a .most;
     inside = room-enough (base l) (length bytes) count (a .fit) (a .full) (a .most);
     labels = a .labels;
-    ends = λ k h. omega (arith, start-at k h, count-at k h, lists-inside (base l) (baseLabels l bytes) count count k h, words-long);
-    lists = λ k h.
-        ap₂ (λ n b. take n (drop b words)) (count-at k h) (start-at k h)
-        ∙ ap (λ x. take (length (listAt (base l) (baseLabels l bytes) count k)) (drop (length (listsBefore (base l) (baseLabels l bytes) count k)) x)) words-are
-        ∙ part-left (listsBefore (base l) (baseLabels l bytes) count count) (drop (0 + length (listsBefore (base l) (baseLabels l bytes) count count)) e)
-        (length (listsBefore (base l) (baseLabels l bytes) count k)) (length (listAt (base l) (baseLabels l bytes) count k)) (lists-inside (base l) (baseLabels l bytes) count count k h)
-        ∙ list-part (base l) (baseLabels l bytes) count count k h;
+    ends = λ k h. omega (arith, start-at k h, air-at k h, lists-inside (base l) (baseLabels l bytes) count count k h, words-long);
+    within = λ k h. omega (arith, count-at k h, air-at k h, swept-within (base l) (baseLabels l bytes) count k);
+    lists = λ k h. ap (λ n. take n (drop (getD (s .start) k 0) words)) (count-at k h) ∙ swept-part k h;
+    air = λ k h. ap (λ n. take n (drop (getD (s .start) k 0) words)) (air-at k h) ∙ air-part k h;
   }
 
 -- the same from the labels as `all_labels` was given and left them
@@ -117,6 +149,26 @@ ready-first l s count bytes words r p h = record { prepared = p; below = omega (
 -- how much room six levels' fields take
 pub fields-most : (g : Sides) (count : ℕ) → Fit g → count ≤ 6 → fieldsFrom g count 0 ≤ 6 * cells g + 15
 fields-most g count z h = omega (arith, fields-all g count, cells-of-six g (fits g z) count h)
+
+-- ---- a zero set at the room's end: it is there, and all before it stays
+module _ (e : List Float) where
+  abbrev ending : List Float
+  ending = set e (length e - 1) +0
+
+  pub zero-end : (m : ℕ) → m < length e → Ended m ending
+  zero-end m h =
+      let last : length (set e (length e - 1) +0) - 1 ≡ length e - 1 = ap (λ n. n - 1) (length-set e (length e - 1) +0) in
+      record { spare = omega (arith, length-set e (length e - 1) +0); none = ap (value ending) last ∙ getD-set-same e (length e - 1) +0 nan (omega arith) }
+
+  pub zero-part : (k n : ℕ) → k + n < length e → take n (drop k ending) ≡ take n (drop k e)
+  zero-part k n h =
+      sym (part-take k n (length e - 1) ending (omega arith)) ∙ ap (λ s. take n (drop k s)) (take-set-le (length e - 1) e (length e - 1) +0 (omega arith))
+      ∙ part-take k n (length e - 1) e (omega arith)
+
+-- and a cycle keeps it
+pub cycled-end : (l : Levels) (bytes : List ℕ) (count k : ℕ) (e x : List Float) → Ended (fieldsFrom (base l) count k) e → Cycled l bytes count k e x
+    → Ended (fieldsFrom (base l) count k) x
+cycled-end l bytes count k e x n p = end-kept (fieldsFrom (base l) count k) (fieldsFrom (base l) count k) (omega arith) (p .beyond) (p .long) n
 
 -- ---- THE PROMISE IS ONE RESULT, as far as it goes: u, b, all beyond, and the length
 module _ {n m : ℕ} {v e x y : List Float} where

@@ -11,28 +11,31 @@ use borrow.Author.Needs.{needs}
 use borrow.Author.Tests.{eq-eqb, ne-eqb, lt-ltb, le-ltb}
 use lib.Dec.{eqb, ltb}
 use lib.ListN.{length, take, drop, length-append, length-drop, take-append-drop, drop-of-length-le}
-use lib.Seq.{take-all, take-at, drop-at, length-take-le, drop-drop, take-take, take-append-le, drop-append-le}
+use lib.Seq.{take-all, take-at, drop-at, length-take-le, drop-drop, take-take, take-append-le, drop-append-le, getD-drop}
 use borrow.Rule.Slice.PartMut.{midOf, putMid}
 use mir.Syntax.{w64}
 use mir.Val.{Fits}
-use lib.Ieee.{Float}
+use lib.Ieee.{Float, nan}
+use Rattle.laws.specs.Binary64.{+0}
 use Rattle.laws.specs.Loops.{up}
 use Rattle.laws.proofs.Loops.{ups}
 use Rattle.laws.proofs.Fill.{up-same, part-take, part-drop}
 use Rattle.laws.proofs.Fills.{up-keeps, up-front}
 use Rattle.method.specs.declared.Sides.{Sides}
 use Rattle.method.specs.Cast.{cells, isAir}
-use Rattle.method.specs.Levels.{halved, coarse, inBand, restricted}
+use Rattle.method.specs.Levels.{value, halved, coarse, inBand, restricted}
 use Rattle.method.specs.Cycle.{times, sweeps, ascending, descending, jacobi, residue, zeros, coarsest, downstroke}
-use Rattle.theory.specs.Waves.{waves}
+use Rattle.theory.proofs.Sides.{Fit}
 use Rattle.theory.proofs.Children.{band-air}
+use Rattle.grid.specs.Entries.{cellsOf}
 use Rattle.smooth.specs.Fields.{u-of, b-of, t-of, Level, Laid}
-use Rattle.smooth.specs.Sweeps.{sweptUp, sweptDown, Below}
+use Rattle.smooth.specs.Sweeps.{sweptUp, sweptDown}
+use Rattle.smooth.specs.Entries.{EntryLevel}
 use Rattle.smooth.proofs.Fields.{laid, laid-u, laid-b, laid-t, laid-rest, laid-follows}
 use Rattle.smooth.proofs.After.{after-jacobi, after-residual, zeros-length, inAir-length, sweptUp-length, sweptDown-length}
-use Rattle.smooth.proofs.Sweeps.{waves-ascending, waves-descending, waves-in}
+use Rattle.smooth.proofs.EntryLaws.{waves-entries, entries-ascending, entries-descending}
 use Rattle.transfer.specs.Transfer.{TwoLevels, restrictedRoom}
-use Rattle.cycle.specs.Strokes.{swept, sweepTurn, sweptRoom, coarsestTurn, Put, rising, Lowered}
+use Rattle.cycle.specs.Strokes.{entriesWhere, Ended, swept, sweepTurn, sweptRoom, coarsestTurn, Put, rising, Lowered}
 
 -- ---- parts of a room
 -- a part that lies in the first of two lists
@@ -52,6 +55,29 @@ module _ (a : ℕ) (d c : List Float) (h : a ≤ length d) where
   home-is =
       let none : drop (length d - a) (drop a d) ≡ [] = drop-of-length-le (drop a d) {i = length d - a} (omega (arith, length-drop a d)) in
       ap (λ s. take a d ++ (c ++ s)) none ∙ ap (λ s. take a d ++ s) (append-nil c)
+
+-- ---- the zero at the end of a room
+module _ (a m : ℕ) (h : a ≤ m) where
+  -- what keeps all beyond a keeps it
+  pub end-kept : {e x : List Float} → drop a x ≡ drop a e → length x ≡ length e → Ended m e → Ended m x
+  end-kept {e} {x} q k z =
+      let at : a + (length x - 1 - a) ≡ length x - 1 = omega (arith, z .spare) in
+      let to : a + (length x - 1 - a) ≡ length e - 1 = omega (arith, z .spare) in
+      record {
+        spare = omega (arith, z .spare);
+        none =
+            ap (value x) (sym at) ∙ sym (getD-drop a x (length x - 1 - a) nan) ∙ ap (λ l. value l (length x - 1 - a)) q ∙ getD-drop a e (length x - 1 - a) nan
+            ∙ ap (value e) to ∙ z .none;
+      }
+
+  pub end-less : {e : List Float} → Ended m e → Ended a e
+  end-less z = record { spare = omega (arith, z .spare); none = z .none }
+
+-- and a part that is lent to its end has it
+pub end-lent : (a m : ℕ) (d : List Float) → Ended (a + m) d → Ended m (drop a d)
+end-lent a m d z =
+    let at : a + (length (drop a d) - 1) ≡ length d - 1 = omega (arith, z .spare, length-drop a d) in
+    record { spare = omega (arith, z .spare, length-drop a d); none = getD-drop a d (length (drop a d) - 1) nan ∙ ap (value d) at ∙ z .none }
 
 -- ---- one sweep, and several
 swept-length : (forward : Bool) (g : Sides) (ls cs : List ℕ) (b u : List Float) → length (swept forward g ls cs b u) ≡ length u
@@ -103,7 +129,16 @@ halves : {A : Type 0} (s : Bool → A → A) (e : A) → up (λ i. s (ltb i 8)) 
 unfolding up
 halves s e = refl
 
-pub ruleset sweeping = (ups, forward-is, back-is, times-is, half-is)
+-- the level, with a room whose last element is still zero
+pub level-again : {g : Sides} {ls es : List ℕ} {e x : List Float} → EntryLevel g ls es e → length x ≡ length e → value x (length x - 1) ≡ +0 → EntryLevel g ls es x
+level-again z k h = record {
+  level = record { sides = z .level .sides; labelled = z .level .labelled; roomy = omega (arith, z .level .roomy) };
+  entries = z .entries;
+  spare = omega (arith, z .spare);
+  none = h;
+}
+
+pub ruleset sweeping = (ups, forward-is, back-is, times-is, half-is, level-again)
 
 -- ---- how many sweeps
 pub record Doubled (i n : ℕ) : Type 0 where
@@ -175,65 +210,87 @@ times-same : (k : ℕ) (f h : List Float → List Float) (u : List Float) → ((
 unfolding times
 times-same k f h u q = up-same (λ i. f) (λ i. h) u k (λ i v l. q v)
 
-module _ (g : Sides) (ls cs : List ℕ) (at : ℕ → Bool) (air : (c : ℕ) → at c ≡ true → isAir ls c ≡ true) (q : cs ≡ waves g at) (k : ℕ) (b u : List Float) where
-  times-up : times k (swept true g ls cs b) u ≡ times k (ascending g ls at b) u
+module _ (g : Sides) (ls es : List ℕ) (z : Fit g) (at : ℕ → Bool) (air : (c : ℕ) → at c ≡ true → isAir ls c ≡ true) (q : es ≡ entriesWhere g ls at) (k : ℕ) (b u : List Float) where
+  times-up : times k (swept true g ls (cellsOf es) b) u ≡ times k (ascending g ls at b) u
   unfolding swept
-  times-up = times-same k (swept true g ls cs b) (ascending g ls at b) u (λ v. ap (λ c. sweptUp g ls c b v) q ∙ waves-ascending g ls at air b v)
+  times-up = times-same k (swept true g ls (cellsOf es) b) (ascending g ls at b) u (λ v. entries-ascending g ls z at air es q b v)
 
-  times-down : times k (swept false g ls cs b) u ≡ times k (descending g ls at b) u
+  times-down : times k (swept false g ls (cellsOf es) b) u ≡ times k (descending g ls at b) u
   unfolding swept
-  times-down = times-same k (swept false g ls cs b) (descending g ls at b) u (λ v. ap (λ c. sweptDown g ls c b v) q ∙ waves-descending g ls at air b v)
+  times-down = times-same k (swept false g ls (cellsOf es) b) (descending g ls at b) u (λ v. entries-descending g ls z at air es q b v)
+
+-- ---- what is swept: the entries of the band, or of all air
+module _ (g : Sides) (ls es : List ℕ) (e : List Float) (z : Level g ls e) (n : Ended (3 * cells g) e) where
+  entry-level : (at : ℕ → Bool) → ((c : ℕ) → at c ≡ true → isAir ls c ≡ true) → es ≡ entriesWhere g ls at → EntryLevel g ls es e
+  entry-level at air q = record {
+    level = z;
+    entries = waves-entries g ls (z .sides) at air es q (length ls) (g .nx) (g .nx * g .ny) (z .labelled) (z .labelled) refl refl;
+    spare = omega (arith, n .spare, z .labelled);
+    none = n .none;
+  }
+
+  pub band-level : es ≡ entriesWhere g ls (inBand g ls) → EntryLevel g ls es e
+  band-level q = entry-level (inBand g ls) (band-air g ls) q
+
+  pub air-level : es ≡ entriesWhere g ls (isAir ls) → EntryLevel g ls es e
+  air-level q = entry-level (isAir ls) (λ c a. a) q
+
+  -- after Jacobi
+  pub jacobi-level : (d : List Float) → es ≡ entriesWhere g ls (inBand g ls)
+      → d ≡ jacobi g ls (b-of (cells g) e) (u-of (cells g) e) ++ (b-of (cells g) e ++ (u-of (cells g) e ++ drop (3 * cells g) e)) → EntryLevel g ls es d
+  jacobi-level d q p =
+      let put = jacobi-put g ls e d (z .roomy) p in
+      let end = end-kept (3 * cells g) (3 * cells g) (omega arith) (put .beyond) (put .long) n in
+      level-again (band-level q) (put .long) (end .none)
 
 -- ---- THE STROKES
-pub below-waves : (g : Sides) (at : ℕ → Bool) (cs : List ℕ) → cs ≡ waves g at → Below (cells g) cs
-below-waves g at cs q = rw q (waves-in g at)
-
-module _ (g : Sides) (ls cs : List ℕ) (e d x : List Float) (z : Level g ls e) (long : length d ≡ length e) where
-  module _ (k m : ℕ) (count : m ≡ sweeps k) (q : cs ≡ waves g (inBand g ls)) where
+module _ (g : Sides) (ls es : List ℕ) (e d x : List Float) (z : Level g ls e) (long : length d ≡ length e) where
+  module _ (k m : ℕ) (count : m ≡ sweeps k) (q : es ≡ entriesWhere g ls (inBand g ls)) where
     pub downstroke-is : u-of (cells g) e ≡ zeros g
         → d ≡ jacobi g ls (b-of (cells g) e) (u-of (cells g) e) ++ (b-of (cells g) e ++ (u-of (cells g) e ++ drop (3 * cells g) e))
-        → x ≡ sweptRoom m true g ls cs d → Put (cells g) (3 * cells g) (downstroke k g ls (b-of (cells g) e)) e x
+        → x ≡ sweptRoom m true g ls (cellsOf es) d → Put (cells g) (3 * cells g) (downstroke k g ls (b-of (cells g) e)) e x
     unfolding downstroke
     downstroke-is o p r =
         let n = cells g in
         let b = b-of (cells g) e in
         let first = jacobi-put g ls e d (z .roomy) p in
-        let second = sweeps-put g ls d x (omega (arith, z .roomy)) m true cs r in
+        let second = sweeps-put g ls d x (omega (arith, z .roomy)) m true (cellsOf es) r in
         put-as n (3 * n) _ _
-        (times-up g ls cs (inBand g ls) (band-air g ls) q m b (jacobi g ls b (u-of n e))
+        (times-up g ls es (z .sides) (inBand g ls) (band-air g ls) q m b (jacobi g ls b (u-of n e))
         ∙ ap₂ (λ j v. times j (ascending g ls (inBand g ls) b) (jacobi g ls b v)) count o)
-        (put-then n (3 * n) _ (λ c v. times m (swept true g ls cs c) v) first second)
+        (put-then n (3 * n) _ (λ c v. times m (swept true g ls (cellsOf es) c) v) first second)
 
-    pub upstroke-is : d ≡ sweptRoom m false g ls cs e
+    pub upstroke-is : d ≡ sweptRoom m false g ls (cellsOf es) e
         → x ≡ jacobi g ls (b-of (cells g) d) (u-of (cells g) d) ++ (b-of (cells g) d ++ (u-of (cells g) d ++ drop (3 * cells g) d))
         → Put (cells g) (3 * cells g) (rising k g ls (b-of (cells g) e) (u-of (cells g) e)) e x
     unfolding rising
     upstroke-is p r =
         let n = cells g in
         let b = b-of (cells g) e in
-        let first = sweeps-put g ls e d (z .roomy) m false cs p in
+        let first = sweeps-put g ls e d (z .roomy) m false (cellsOf es) p in
         let second = jacobi-put g ls d x (omega (arith, z .roomy)) r in
         put-as n (3 * n) _ _
         (ap (jacobi g ls b)
-        (times-down g ls cs (inBand g ls) (band-air g ls) q m b (u-of n e) ∙ ap (λ j. times j (descending g ls (inBand g ls) b) (u-of n e)) count))
+        (times-down g ls es (z .sides) (inBand g ls) (band-air g ls) q m b (u-of n e) ∙ ap (λ j. times j (descending g ls (inBand g ls) b) (u-of n e)) count))
         (put-then n (3 * n) _ (λ c v. jacobi g ls c v) first second)
 
-pub coarsest-is : (g : Sides) (ls cs : List ℕ) (e x : List Float) → Level g ls e → cs ≡ waves g (isAir ls) → u-of (cells g) e ≡ zeros g
-    → x ≡ up (coarsestTurn g ls cs) 16 e → Put (cells g) (3 * cells g) (coarsest g ls (b-of (cells g) e)) e x
+pub coarsest-is : (g : Sides) (ls es : List ℕ) (e x : List Float) → Level g ls e → es ≡ entriesWhere g ls (isAir ls) → u-of (cells g) e ≡ zeros g
+    → x ≡ up (coarsestTurn g ls (cellsOf es)) 16 e → Put (cells g) (3 * cells g) (coarsest g ls (b-of (cells g) e)) e x
 unfolding coarsest
-coarsest-is g ls cs e x z q o r =
+coarsest-is g ls es e x z q o r =
     let n = cells g in
     let b = b-of (cells g) e in
-    let d = up (turn true g ls cs) 8 e in
+    let cs = cellsOf es in
+    let d = up (turn true g ls (cellsOf es)) 8 e in
     let first = sweeps-put g ls e d (z .roomy) 8 true cs (times-is true g ls cs 8 e d (z .roomy) refl) in
-    let room : 3 * cells g ≤ length (up (turn true g ls cs) 8 e) = omega (arith, first .long, z .roomy) in
+    let room : 3 * cells g ≤ length (up (turn true g ls (cellsOf es)) 8 e) = omega (arith, first .long, z .roomy) in
     let second = sweeps-put g ls d x room 8 false cs (times-is false g ls cs 8 d x room (r ∙ halves (λ forward s. sweepTurn forward g ls cs s) e)) in
     put-as n (3 * n) _ _
-    (times-down g ls cs (isAir ls) (λ c a. a) q 8 b (times 8 (swept true g ls cs b) (u-of n e))
-    ∙ ap (times 8 (descending g ls (isAir ls) b)) (times-up g ls cs (isAir ls) (λ c a. a) q 8 b (u-of n e) ∙ ap (times 8 (ascending g ls (isAir ls) b)) o))
+    (times-down g ls es (z .sides) (isAir ls) (λ c a. a) q 8 b (times 8 (swept true g ls cs b) (u-of n e))
+    ∙ ap (times 8 (descending g ls (isAir ls) b)) (times-up g ls es (z .sides) (isAir ls) (λ c a. a) q 8 b (u-of n e) ∙ ap (times 8 (ascending g ls (isAir ls) b)) o))
     (put-then n (3 * n) _ (λ c v. times 8 (swept false g ls cs c) v) first second)
 
-pub ruleset strokes = (ups, below-waves, coarsest-is, downstroke-is, upstroke-is)
+pub ruleset strokes = (ups, level-again, band-level, air-level, jacobi-level, coarsest-is, downstroke-is, upstroke-is)
 
 -- ---- the residual, restricted
 restricted-length : (g : Sides) (ls : List ℕ) (u : List Float) → length (restricted g ls u) ≡ cells (halved g)

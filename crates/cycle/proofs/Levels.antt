@@ -17,7 +17,6 @@ use Rattle.method.specs.declared.Sides.{Sides}
 use Rattle.method.specs.Cast.{cells, isAir}
 use Rattle.method.specs.Levels.{halved, coarse, inBand, restricted}
 use Rattle.method.specs.Cycle.{cycle, coarsest, downstroke, upstroke, corrected, residue, zeros}
-use Rattle.theory.specs.Waves.{waves}
 use Rattle.theory.specs.Levels.{sidesAt, labelsAt, cellsBefore}
 use Rattle.theory.proofs.Sides.{Fit}
 use Rattle.theory.proofs.Sizes.{fit-at}
@@ -33,9 +32,9 @@ use Rattle.levels.proofs.Calls.{before-up-to}
 use Rattle.smooth.specs.Fields.{u-of, b-of, Level}
 use Rattle.smooth.proofs.After.{inAir-length}
 use Rattle.transfer.specs.Transfer.{TwoLevels, correctedRoom}
-use Rattle.cycle.specs.Strokes.{Put, rising, Lowered}
+use Rattle.cycle.specs.Strokes.{entriesWhere, Ended, Put, rising, Lowered}
 use Rattle.cycle.specs.Rooms.{listFrom, fieldsFrom, Ready, sidesOf, cellsOf, labelsOf, cycleFrom, Cycled, correction, Corrected, LabelsAt, ListAt}
-use Rattle.cycle.proofs.Laws.{put-then, put-as, put-later, later, clear-put, part-first, lent-is, home-is}
+use Rattle.cycle.proofs.Laws.{end-kept, end-less, end-lent, put-then, put-as, put-later, later, clear-put, part-first, lent-is, home-is}
 
 -- ---- a level's part of the rooms of bytes and words
 pub part-fit : (l : Levels) (k n : ℕ) (g : Sides) → LabelsAt l k n → g ≡ sidesIn l k → Fit g
@@ -106,7 +105,7 @@ module _ {l : Levels} {s : Lists} {count k : ℕ} {bytes words : List ℕ} {r : 
   labels-asked = record { below = six; fit = rw sides-here fit-here; inside = omega (arith, start-here, ap cells sides-here, end-here) }
 
   pub list-asked : ListAt s k (length words)
-  list-asked = record { below = six; inside = z .prepared .ends k (z .below) }
+  list-asked = record { below = six; inside = omega (arith, z .prepared .ends k (z .below), z .prepared .within k (z .below)) }
 
   labels-here : partIn l k bytes ≡ labelsOf l bytes k
   unfolding partIn
@@ -121,6 +120,13 @@ module _ {l : Levels} {s : Lists} {count k : ℕ} {bytes words : List ℕ} {r : 
 
   pub same-ready : (m : ℕ) → m ≡ r → Ready l s count k bytes words m
   same-ready m q = rw q z
+
+  own-fields : 3 * cellsOf l k ≤ fieldsFrom (base l) count k
+  own-fields = omega (arith, fields-next (base l) count k (z .below))
+
+  -- after a correction
+  pub corrected-end : (e d : List Float) → Ended (fieldsFrom (base l) count k) e → Corrected l bytes count k e d → Ended (fieldsFrom (base l) count k) d
+  corrected-end e d n p = end-kept (fieldsFrom (base l) count k) (fieldsFrom (base l) count k) (omega arith) (p .beyond) (p .long) n
 
   room-own : 3 * cellsOf l k ≤ r
   room-own = omega (arith, fields-next (base l) count k (z .below), z .roomy)
@@ -138,6 +144,19 @@ module _ {l : Levels} {s : Lists} {count k : ℕ} {bytes words : List ℕ} {r : 
 
     pub cleared : (e d : List Float) → length e ≡ r → d ≡ zeros g ++ drop (cells g) e → u-of (cells g) d ≡ zeros g
     cleared e d q p = clear-put g [] e d (omega (arith, ap cells same-sides, room-own)) p .u
+
+    -- the zero at the room's end, where u is cleared
+    pub cleared-end : (e d : List Float) → length e ≡ r → Ended (fieldsFrom (base l) count k) e → d ≡ zeros g ++ drop (cells g) e → Ended (fieldsFrom (base l) count k) d
+    cleared-end e d q n p =
+        let put = clear-put g [] e d (omega (arith, ap cells same-sides, room-own)) p in
+        end-kept (3 * cells g) (fieldsFrom (base l) count k) (omega (arith, ap cells same-sides, own-fields)) (put .beyond) (put .long) n
+
+    -- after a stroke, and for one
+    pub stroke-end : (v e d : List Float) → Ended (fieldsFrom (base l) count k) e → Put (cells g) (3 * cells g) v e d → Ended (fieldsFrom (base l) count k) d
+    stroke-end v e d n p = end-kept (3 * cells g) (fieldsFrom (base l) count k) (omega (arith, ap cells same-sides, own-fields)) (p .beyond) (p .long) n
+
+    pub level-end : {d : List Float} → Ended (fieldsFrom (base l) count k) d → Ended (3 * cells g) d
+    level-end n = end-less (3 * cells g) (fieldsFrom (base l) count k) (omega (arith, ap cells same-sides, own-fields)) n
 
     module _ {ls : List ℕ} (el : ls ≡ partIn l k bytes) where
       same-labels : ls ≡ labelsOf l bytes k
@@ -160,17 +179,17 @@ module _ {l : Levels} {s : Lists} {count k : ℕ} {bytes words : List ℕ} {r : 
         list-here : cs ≡ listAt (base l) (baseLabels l bytes) count k
         list-here = ec ∙ z .prepared .lists k (z .below)
 
-        pub band-listed : k + 1 < count → cs ≡ waves g (inBand g ls)
+        pub band-listed : k + 1 < count → cs ≡ entriesWhere g ls (inBand g ls)
         unfolding listAt listOf smoothed
         band-listed h =
             list-here ∙ ap (λ b. listOf b (sidesOf l k) (labelsOf l bytes k)) (lt-ltb (k + 1) count h)
-            ∙ ap₂ (λ m c. waves m (inBand m c)) (sym same-sides) (sym same-labels)
+            ∙ ap₂ (λ m c. entriesWhere m c (inBand m c)) (sym same-sides) (sym same-labels)
 
-        pub air-listed : count ≤ k + 1 → cs ≡ waves g (isAir ls)
+        pub air-listed : count ≤ k + 1 → cs ≡ entriesWhere g ls (isAir ls)
         unfolding listAt listOf smoothed
         air-listed h =
             list-here ∙ ap (λ b. listOf b (sidesOf l k) (labelsOf l bytes k)) (le-ltb (k + 1) count h)
-            ∙ ap₂ (λ m c. waves m (isAir c)) (sym same-sides) (sym same-labels)
+            ∙ ap₂ (λ m c. entriesWhere m c (isAir c)) (sym same-sides) (sym same-labels)
 
         -- the coarsest level
         pub cycle-last : (e d x : List Float) → length e ≡ r → count ≤ k + 1 → d ≡ zeros g ++ drop (cells g) e
@@ -307,6 +326,15 @@ module _ {l : Levels} {s : Lists} {count k : ℕ} {bytes words : List ℕ} {r : 
         let long : length (midOf (3 * length ls) (length d - 3 * length ls) d) ≡ r - 3 * cellsOf l k =
         ap length (lent-is (3 * length ls) d [] (lent-long d q)) ∙ length-drop (3 * length ls) d ∙ omega (arith, two-levels .all, ap cells g-is) in
         rw long (next-ready z more)
+
+    -- the zero at the end of what is lent, once the residual is restricted
+    pub lent-end : (e d : List Float) → length e ≡ r → Ended (fieldsFrom (base l) count k) e → Lowered g h ls e d
+        → Ended (fieldsFrom (base l) count (k + 1)) (midOf (3 * length ls) (length d - 3 * length ls) d)
+    lent-end e d q n low =
+        let a : 3 * length ls ≡ 3 * cellsOf l k = omega (arith, two-levels .all, ap cells g-is) in
+        let both : fieldsFrom (base l) count k ≡ 3 * length ls + fieldsFrom (base l) count (k + 1) = omega (arith, fields-next (base l) count k (z .below)) in
+        let here : Ended (fieldsFrom (base l) count k) d = end-kept (3 * cells g + 3 * cells h) (fieldsFrom (base l) count k) (omega (arith, ap cells g-is, ap cells h-is, fields-two z more)) (low .beyond) (low .long) n in
+        rw (lent-is (3 * length ls) d [] (lent-long d (low .long ∙ q))) (end-lent (3 * length ls) (fieldsFrom (base l) count (k + 1)) d (rw both at here))
 
     pub home-room : (d c : List Float) → length d ≡ r → length c ≡ length (midOf (3 * length ls) (length d - 3 * length ls) d)
         → 3 * cells g + 3 * cells h ≤ length (putMid (3 * length ls) (length d - 3 * length ls) d c)

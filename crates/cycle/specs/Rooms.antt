@@ -14,13 +14,16 @@ use Rattle.levels.specs.declared.sides.Levels.{Levels}
 use Rattle.levels.specs.declared.lists.Lists.{Lists}
 use Rattle.levels.specs.Levels.{levelsOf, base, startIn, sidesIn}
 use Rattle.levels.specs.AllLabels.{LabelsIn}
-use Rattle.levels.specs.AllLists.{baseLabels, listAt}
+use Rattle.levels.specs.AllLists.{baseLabels, listAt, airAt}
 use Rattle.smooth.specs.Fields.{u-of, b-of}
 use Rattle.cycle.specs.Strokes.{Put}
 
--- level k's list in the room of words
+-- in the room of words what is swept of level k, and all its air
 unfoldable pub listFrom : Lists → ℕ → List ℕ → List ℕ
 listFrom s k words = take (getD (s .count) k 0) (drop (getD (s .start) k 0) words)
+
+unfoldable pub airFrom : Lists → ℕ → List ℕ → List ℕ
+airFrom s k words = take (getD (s .air) k 0) (drop (getD (s .start) k 0) words)
 
 -- count levels, whose labels stand in the room of bytes and whose lists stand in the room of words
 pub record Prepared (l : Levels) (s : Lists) (count : ℕ) (bytes words : List ℕ) : Type 0 where
@@ -30,8 +33,10 @@ pub record Prepared (l : Levels) (s : Lists) (count : ℕ) (bytes words : List �
   pub most : count ≤ 6
   pub inside : cellsBefore (base l) count ≤ length bytes
   pub labels : LabelsIn (base l) (baseLabels l bytes) count bytes
-  pub ends : (k : ℕ) → k < count → getD (s .start) k 0 + getD (s .count) k 0 ≤ length words
+  pub ends : (k : ℕ) → k < count → getD (s .start) k 0 + getD (s .air) k 0 ≤ length words
+  pub within : (k : ℕ) → k < count → getD (s .count) k 0 ≤ getD (s .air) k 0
   pub lists : (k : ℕ) → k < count → listFrom s k words ≡ listAt (base l) (baseLabels l bytes) count k
+  pub air : (k : ℕ) → k < count → airFrom s k words ≡ airAt (base l) (baseLabels l bytes) count k
 
 -- the three fields of the levels k, k + 1, .. count - 1 of a box
 unfoldable pub fieldsFrom : Sides → ℕ → ℕ → ℕ

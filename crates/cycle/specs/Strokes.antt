@@ -1,17 +1,29 @@
 -- What one level's strokes do to its fields.
-use Prim.Native.Nat.{ℕ, _+_, _*_}
+use Prim.Native.Nat.{ℕ, _+_, _-_, _*_, _<_}
 use mathlib.Core.Path.{_≡_}
 use mathlib.Core.Bool.{Bool, true, false}
-use mathlib.Core.List.{List, _++_}
+use mathlib.Core.List.{List, _++_, map}
 use lib.Dec.{ltb}
 use lib.ListN.{length, drop}
 use lib.Ieee.{Float}
+use Rattle.laws.specs.Binary64.{+0}
 use Rattle.method.specs.declared.Sides.{Sides}
 use Rattle.method.specs.Cast.{cells}
-use Rattle.method.specs.Levels.{inBand, restricted}
+use Rattle.method.specs.Levels.{value, inBand, restricted}
 use Rattle.method.specs.Cycle.{times, sweeps, descending, jacobi, residue}
+use Rattle.theory.specs.Waves.{waves}
+use Rattle.grid.specs.Entries.{entryOf}
 use Rattle.smooth.specs.Fields.{u-of, b-of}
 use Rattle.smooth.specs.Sweeps.{sweptUp, sweptDown}
+
+-- the entries of the cells that pass a test, wave by wave
+abbrev pub entriesWhere : Sides → List ℕ → (ℕ → Bool) → List ℕ
+entriesWhere g ls at = map (entryOf g ls) (waves g at)
+
+-- a room whose last element is zero and stands behind the first m
+pub record Ended (m : ℕ) (r : List Float) : Type 0 where
+  pub spare : m < length r
+  pub none : value r (length r - 1) ≡ +0
 
 -- a sweep over a list of cells, forward or against the list's order
 unfoldable pub swept : Bool → Sides → List ℕ → List ℕ → List Float → List Float → List Float

@@ -1,40 +1,54 @@
 // The V-cycle in binary64, in the lent rooms: each level works on u, b and t at the front of its part of the room, and lends
-// what follows to the next coarser level.
+// what follows to the next coarser level. The last element of all these rooms is the same one, and is zero.
 ghost use mathlib.Core.Path.{_≡_};
-ghost use Prim.Native.Nat.{_+_, _*_, _≤_, _<_};
-ghost use lib.ListN.{length};
+ghost use Prim.Native.Nat.{_+_, _-_, _*_, _≤_, _<_};
+ghost use lib.ListN.{length, set};
+ghost use Rattle.laws.specs.Binary64.{+0};
 ghost use Rattle.method.specs.Cast.{cells, isAir};
-ghost use Rattle.method.specs.Levels.{inBand};
+ghost use Rattle.method.specs.Levels.{value, inBand};
 ghost use Rattle.method.specs.Cycle.{sweeps, zeros, coarsest, downstroke};
-ghost use Rattle.theory.specs.Waves.{waves};
+ghost use Rattle.grid.specs.Entries.{cellsOf};
+ghost use Rattle.levels.specs.Levels.{base};
 ghost use Rattle.levels.specs.AllLists.{partIn};
 ghost use Rattle.smooth.specs.Fields.{u-of, b-of, Level};
-ghost use Rattle.smooth.specs.Sweeps.{Below};
+ghost use Rattle.smooth.specs.Entries.{EntryLevel};
 ghost use Rattle.transfer.specs.Transfer.{TwoLevels};
-ghost use Rattle.cycle.specs.Strokes.{sweepTurn, sweptRoom, coarsestTurn, Put, rising, Lowered};
-ghost use Rattle.cycle.specs.Rooms.{listFrom, Ready, Cycled, Corrected, LabelsAt, ListAt};
+ghost use Rattle.cycle.specs.Strokes.{entriesWhere, Ended, sweepTurn, sweptRoom, coarsestTurn, Put, rising, Lowered};
+ghost use Rattle.cycle.specs.Rooms.{listFrom, fieldsFrom, Ready, Cycled, Corrected, LabelsAt, ListAt};
 use levels::lists::Lists;
 use levels::sides::Levels;
 use method::Sides;
 
-// One sweep over a list of cells, forward or against the list's order.
-fn sweep(room: &mut [f64], labels: &[u8], list: &[u32], g: Sides, forward: bool)
-    requires { ⌜ Level g (now labels) (now room) ⌝ }
-    requires { ⌜ Below (cells g) (now list) ⌝ }
-    ensures { λ _. ⌜ now (room .exit) ≡ sweepTurn forward g (now (labels .entry)) (now (list .entry)) (now (room .entry)) ⌝ }
+// The last element of a room becomes the zero that entries read where there is no air.
+pub fn end_in_zero(room: &mut [f64])
+    requires { ⌜ 0 < length (now room) ⌝ }
+    ensures { λ _. ⌜ now (room .exit) ≡ set (now (room .entry)) (length (now (room .entry)) - 1) +0 ⌝ }
 {
+    let last = room.len() - 1;
+    room[last] = 0.0;
+}
+
+// One sweep over a list of entries, forward or against the list's order. The labels say what the entries are of, and are not read.
+fn sweep(room: &mut [f64], labels: &[u8], list: &[u32], g: Sides, forward: bool)
+    requires { ⌜ EntryLevel g (now labels) (now list) (now room) ⌝ }
+    ensures { λ _. ⌜ value (now (room .exit)) (length (now (room .exit)) - 1) ≡ +0 ⌝ }
+    ensures { λ _. ⌜ now (room .exit) ≡ sweepTurn forward g (now (labels .entry)) (cellsOf (now (list .entry))) (now (room .entry)) ⌝ }
+{
+    let n = labels.len();
+    let nx = g.nx as usize;
+    let plane = nx * (g.ny as usize);
+    let zero = room.len() - 1;
     if forward {
-        smooth::sweep_up(room, labels, list, g);
+        smooth::entries::sweep_up(room, list, n, nx, plane, zero);
     } else {
-        smooth::sweep_down(room, labels, list, g);
+        smooth::entries::sweep_down(room, list, n, nx, plane, zero);
     }
 }
 
 // That many sweeps.
 fn sweep_times(room: &mut [f64], labels: &[u8], list: &[u32], g: Sides, forward: bool, count: usize)
-    requires { ⌜ Level g (now labels) (now room) ⌝ }
-    requires { ⌜ Below (cells g) (now list) ⌝ }
-    ensures { λ _. ⌜ now (room .exit) ≡ sweptRoom count forward g (now (labels .entry)) (now (list .entry)) (now (room .entry)) ⌝ }
+    requires { ⌜ EntryLevel g (now labels) (now list) (now room) ⌝ }
+    ensures { λ _. ⌜ now (room .exit) ≡ sweptRoom count forward g (now (labels .entry)) (cellsOf (now (list .entry))) (now (room .entry)) ⌝ }
 {
     let mut i = 0;
     while i < count {
@@ -59,10 +73,10 @@ fn sweep_count(k: usize) -> usize
 
 // Sweep i of the coarsest level's sixteen, in halves of eight: the first ascends, the second descends.
 fn coarsest_sweep(room: &mut [f64], labels: &[u8], list: &[u32], g: Sides, i: usize)
-    requires { ⌜ Level g (now labels) (now room) ⌝ }
-    requires { ⌜ Below (cells g) (now list) ⌝ }
+    requires { ⌜ EntryLevel g (now labels) (now list) (now room) ⌝ }
     requires { ⌜ i < 16 ⌝ }
-    ensures { λ _. ⌜ now (room .exit) ≡ coarsestTurn g (now (labels .entry)) (now (list .entry)) i (now (room .entry)) ⌝ }
+    ensures { λ _. ⌜ value (now (room .exit)) (length (now (room .exit)) - 1) ≡ +0 ⌝ }
+    ensures { λ _. ⌜ now (room .exit) ≡ coarsestTurn g (now (labels .entry)) (cellsOf (now (list .entry))) i (now (room .entry)) ⌝ }
 {
     sweep(room, labels, list, g, i / 8 % 2 == 0);
 }
@@ -70,7 +84,8 @@ fn coarsest_sweep(room: &mut [f64], labels: &[u8], list: &[u32], g: Sides, i: us
 // The coarsest level, from u = 0: 8 ascending and 8 descending sweeps over its air cells.
 fn coarsest(room: &mut [f64], labels: &[u8], list: &[u32], g: Sides)
     requires { ⌜ Level g (now labels) (now room) ⌝ }
-    requires { ⌜ now list ≡ waves g (isAir (now labels)) ⌝ }
+    requires { ⌜ Ended (3 * cells g) (now room) ⌝ }
+    requires { ⌜ now list ≡ entriesWhere g (now labels) (isAir (now labels)) ⌝ }
     requires { ⌜ u-of (cells g) (now room) ≡ zeros g ⌝ }
     ensures { λ _. ⌜ Put (cells g) (3 * cells g) (coarsest g (now (labels .entry)) (b-of (cells g) (now (room .entry)))) (now (room .entry)) (now (room .exit)) ⌝ }
 {
@@ -85,7 +100,8 @@ fn coarsest(room: &mut [f64], labels: &[u8], list: &[u32], g: Sides)
 fn downstroke(room: &mut [f64], labels: &[u8], list: &[u32], g: Sides, k: usize)
     requires { ⌜ k < 6 ⌝ }
     requires { ⌜ Level g (now labels) (now room) ⌝ }
-    requires { ⌜ now list ≡ waves g (inBand g (now labels)) ⌝ }
+    requires { ⌜ Ended (3 * cells g) (now room) ⌝ }
+    requires { ⌜ now list ≡ entriesWhere g (now labels) (inBand g (now labels)) ⌝ }
     requires { ⌜ u-of (cells g) (now room) ≡ zeros g ⌝ }
     ensures { λ _. ⌜ Put (cells g) (3 * cells g) (downstroke k g (now (labels .entry)) (b-of (cells g) (now (room .entry)))) (now (room .entry)) (now (room .exit)) ⌝ }
 {
@@ -97,7 +113,8 @@ fn downstroke(room: &mut [f64], labels: &[u8], list: &[u32], g: Sides, k: usize)
 fn upstroke(room: &mut [f64], labels: &[u8], list: &[u32], g: Sides, k: usize)
     requires { ⌜ k < 6 ⌝ }
     requires { ⌜ Level g (now labels) (now room) ⌝ }
-    requires { ⌜ now list ≡ waves g (inBand g (now labels)) ⌝ }
+    requires { ⌜ Ended (3 * cells g) (now room) ⌝ }
+    requires { ⌜ now list ≡ entriesWhere g (now labels) (inBand g (now labels)) ⌝ }
     ensures { λ _. ⌜ Put (cells g) (3 * cells g) (rising k g (now (labels .entry)) (b-of (cells g) (now (room .entry))) (u-of (cells g) (now (room .entry)))) (now (room .entry)) (now (room .exit)) ⌝ }
 {
     sweep_times(room, labels, list, g, false, sweep_count(k));
@@ -145,6 +162,7 @@ pub fn cycle(
     k: usize,
 )
     requires { ⌜ Ready l s count k (now bytes) (now words) (length (now room)) ⌝ }
+    requires { ⌜ Ended (fieldsFrom (base l) count k) (now room) ⌝ }
     ensures { λ _. ⌜ Cycled l (now (bytes .entry)) count k (now (room .entry)) (now (room .exit)) ⌝ }
 {
     let g = levels::sides::sides_at(l, k);
@@ -171,6 +189,7 @@ fn coarse_correction(
     k: usize,
 )
     requires { ⌜ Ready l s count k (now bytes) (now words) (length (now room)) ⌝ }
+    requires { ⌜ Ended (fieldsFrom (base l) count k) (now room) ⌝ }
     requires { ⌜ k + 1 < count ⌝ }
     ensures { λ _. ⌜ Corrected l (now (bytes .entry)) count k (now (room .entry)) (now (room .exit)) ⌝ }
 {

@@ -1,16 +1,16 @@
 -- What the functions of this crate ask. Assumes nothing.
-use Prim.Native.Nat.{ℕ, _+_, _*_, _/_, _%_, _<_, _≤_}
+use Prim.Native.Nat.{ℕ, _+_, _-_, _*_, _/_, _%_, _<_, _≤_}
 use mathlib.Core.Path.{_≡_, refl, sym, ap, _∙_}
 use native.Mathlib.Nat.{mul-le-mul, mod-eq-of-lt, div-one, div-div-eq-div-mul}
 use native.Mathlib.Omega.{arith}
 use Rattle.method.specs.declared.Sides.{Sides}
-use Rattle.method.specs.Cast.{cells}
-use Rattle.method.specs.Cast.{along}
+use Rattle.method.specs.Cast.{cells, along, number}
 use Rattle.theory.proofs.Sides.{z-axis}
 use Rattle.theory.proofs.Numbers.{coordinates-in, top}
 use Rattle.grid.specs.declared.place.Spot.{Spot}
-use Rattle.grid.specs.Place.{SpotOf}
+use Rattle.grid.specs.Place.{SpotOf, placeAt}
 use borrow.Author.Needs.{needs}
+use borrow.Author.Tests.{lt-ltb, le-leb}
 use mir.Syntax.{w64}
 use mir.Val.{Fits}
 
@@ -20,6 +20,13 @@ small-two a b h k = mul-le-mul h k
 
 pub small-three : (a b c : ℕ) → a ≤ 32 → b ≤ 32 → c ≤ 32 → a * (b * c) ≤ 32768
 small-three a b c h k l = mul-le-mul h (mul-le-mul k l)
+
+-- the cell at coordinates that are counted from one and lie in the box
+pub place-inside : (g : Sides) (a b e r : ℕ) → (0 < a) × (a ≤ g .nx) → (0 < b) × (b ≤ g .ny) → (0 < e) × (e ≤ g .nz) → r ≡ number g (a - 1) (b - 1) (e - 1)
+    → r ≡ placeAt g a b e
+unfolding placeAt
+place-inside g a b e r h k l q =
+    rw (lt-ltb 0 a (h .0), le-leb a (g .nx) (h .1), lt-ltb 0 b (k .0), le-leb b (g .ny) (k .1), lt-ltb 0 e (l .0), le-leb e (g .nz) (l .1)) q
 
 -- a cell's number from coordinates below 33
 below-33 : {b z : ℕ} → b ≤ 32 → z < 33 → b * z ≤ 1024

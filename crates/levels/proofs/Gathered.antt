@@ -1,12 +1,10 @@
 -- Laws of all levels' lists: one after the other, with room for the next. Assumes nothing.
 use Prim.Native.Nat.{ℕ, zero, suc, _+_, _-_, _≤_, _<_}
 use mathlib.Core.Path.{_≡_, refl, sym, ap, ap₂, _∙_}
-use mathlib.Core.Bool.{true, false}
 use mathlib.Core.List.{List, _++_}
 use native.Mathlib.Numerals.{add-one}
 use native.Mathlib.Omega.{arith}
 use borrow.Author.Needs.{needs}
-use borrow.Author.Tests.{lt-ltb, le-ltb}
 use lib.Dec.{ltb}
 use lib.ListN.{length, take, drop, set, replicate, length-append}
 use mir.Syntax.{w64}
@@ -19,15 +17,16 @@ use Rattle.theory.proofs.Sides.{Fit}
 use Rattle.theory.proofs.Sizes.{fit-at}
 use Rattle.levels.specs.declared.sides.Levels.{Levels}
 use Rattle.levels.specs.declared.lists.Lists.{Lists}
+use Rattle.levels.specs.declared.lists.Counts.{Counts}
 use Rattle.levels.specs.declared.lists.Gather.{Gather}
 use Rattle.levels.specs.Rooms.{written}
 use Rattle.levels.specs.Levels.{base, startIn, sidesIn}
-use Rattle.levels.specs.Lists.{listOf, Listed}
-use Rattle.levels.specs.AllLists.{listAt, listsBefore, firsts, listsTo, AllListed, partIn, baseLabels, listIn, listSet, Gathered, LevelAsked, ListsAsked}
+use Rattle.levels.specs.Lists.{listOf, airOf, LevelListed}
+use Rattle.levels.specs.AllLists.{listAt, airAt, listsBefore, firsts, listsTo, AllListed, partIn, baseLabels, listIn, airIn, listSet, Gathered, LevelAsked, ListsAsked}
 use Rattle.levels.proofs.Starts.{start-of, sides-of}
 use Rattle.levels.proofs.Rooms.{written-none, length-written, written-on}
 use Rattle.levels.proofs.Labelled.{room-enough}
-use Rattle.levels.proofs.Chosen.{list-le}
+use Rattle.levels.proofs.Chosen.{air-le}
 
 -- ---- one level
 module _ (l : Levels) (k a : ℕ) (bytes : List ℕ) (words : ℕ) (h : LevelAsked l k a bytes words) (g : Sides) (e : g ≡ sidesIn l k) where
@@ -48,24 +47,21 @@ module _ (l : Levels) (k a : ℕ) (bytes : List ℕ) (words : ℕ) (h : LevelAsk
     pub level-room : a + interior g cut ≤ words
     level-room = rw (cut-is, e) (h .room)
 
-    module _ (count r : ℕ) (v s : List ℕ) where
-      pub level-band : k + 1 < count → Listed v a (listOf true g cut) r s → Listed v a (listIn l count bytes k) r s
-      unfolding listIn
-      level-band b p = rw (lt-ltb (k + 1) count b, ← e, ← cut-is) p
+    module _ (count : ℕ) (r : Counts) (v s : List ℕ) where
+      pub level-lists : LevelListed v a (listOf (ltb (k + 1) count) g cut) (airOf (ltb (k + 1) count) g cut) r s → LevelListed v a (listIn l count bytes k) (airIn l count bytes k) r s
+      unfolding listIn airIn
+      level-lists p = rw (← e, ← cut-is) p
 
-      pub level-air : count ≤ k + 1 → Listed v a (listOf false g cut) r s → Listed v a (listIn l count bytes k) r s
-      unfolding listIn
-      level-air b p = rw (le-ltb (k + 1) count b, ← e, ← cut-is) p
+pub gather-fits : (l : Levels) (k a count : ℕ) (n : Counts) (bytes v s : List ℕ) → LevelAsked l k a bytes (length v)
+    → LevelListed v a (listIn l count bytes k) (airIn l count bytes k) n s → Fits w64 (length v) → Fits w64 (a + n .air)
+unfolding airIn
+gather-fits l k a count n bytes v s h p f = omega (arith, h .room, p .whole, air-le (ltb (k + 1) count) (sidesIn l k) (partIn l k bytes))
 
-pub gather-fits : (l : Levels) (k a count n : ℕ) (bytes v s : List ℕ) → LevelAsked l k a bytes (length v) → Listed v a (listIn l count bytes k) n s → Fits w64 (length v) → Fits w64 (a + n)
-unfolding listIn
-gather-fits l k a count n bytes v s h p f = omega (arith, h .room, p .count, list-le (ltb (k + 1) count) (sidesIn l k) (partIn l k bytes))
+pub gather-is : (swept air v s : List ℕ) (k : ℕ) (n : Counts) (f : Gather) (t : Lists) → LevelListed v (f .next) swept air n s
+    → t ≡ listSet (f .lists) k (f .next) (n .swept) (n .air) → Gathered v swept air k f (record { lists = t; next = f .next + n .air }) s
+gather-is swept air v s k n f t p q = record { is = rw (q, p .count, p .whole); room = p .room }
 
-pub gather-is : (list v s : List ℕ) (k n : ℕ) (f : Gather) (t : Lists) → Listed v (f .next) list n s → t ≡ listSet (f .lists) k (f .next) n
-    → Gathered v list k f (record { lists = t; next = f .next + n }) s
-gather-is list v s k n f t p q = record { is = rw (q, p .count); room = p .room }
-
-pub ruleset levelling = (needs, level-fit, level-end, level-room, level-band, level-air, gather-fits, gather-is)
+pub ruleset levelling = (needs, level-fit, level-end, level-room, level-lists, gather-fits, gather-is)
 
 -- ---- what has been gathered of the first k levels
 abbrev pub gathered : Sides → List ℕ → ℕ → ℕ → Gather
@@ -88,13 +84,13 @@ firsts-more f (suc (suc (suc (suc (suc (suc k)))))) h = absurd (omega arith)
 
 module _ (g : Sides) (ls : List ℕ) (count : ℕ) where
   before-le : (k : ℕ) → length (listsBefore g ls count k) ≤ airBefore g ls k
-  unfolding listsBefore airBefore listAt
+  unfolding listsBefore airBefore airAt
   before-le zero = omega arith
   before-le (suc k) = omega (
     arith,
     before-le k,
-    length-append (listsBefore g ls count k) (listAt g ls count k),
-    list-le (ltb (k + 1) count) (sidesAt g k) (labelsAt g ls k),
+    length-append (listsBefore g ls count k) (airAt g ls count k),
+    air-le (ltb (k + 1) count) (sidesAt g k) (labelsAt g ls k),
   )
 
   air-grows : (k m : ℕ) → airBefore g ls k ≤ airBefore g ls (m + k)
@@ -105,28 +101,32 @@ module _ (g : Sides) (ls : List ℕ) (count : ℕ) where
   air-up-to : (k m : ℕ) → k ≤ m → airBefore g ls k ≤ airBefore g ls m
   air-up-to k m h = let q : m - k + k ≡ m = omega arith in rw q at (air-grows k (m - k))
 
-  pub gathering-none : (e : List ℕ) → Gathering g ls count e 0 (record { lists = record { start = replicate 6 0; count = replicate 6 0 }; next = 0 }) e
+  pub gathering-none : (e : List ℕ) → Gathering g ls count e 0 (record { lists = record { start = replicate 6 0; count = replicate 6 0; air = replicate 6 0 }; next = 0 }) e
   unfolding listsTo listsBefore firsts tab
   gathering-none e = record { is = refl; room = written-none e 0 }
 
-  gathering-suc : (e v s : List ℕ) (k : ℕ) (f r : Gather) → k < 6 → Gathering g ls count e k f v → Gathered v (listAt g ls count k) k f r s → Gathering g ls count e (suc k) r s
+  gathering-suc : (e v s : List ℕ) (k : ℕ) (f r : Gather) → k < 6 → Gathering g ls count e k f v → Gathered v (listAt g ls count k) (airAt g ls count k) k f r s → Gathering g ls count e (suc k) r s
   unfolding listsTo listsBefore
   gathering-suc e v s k f r h u w = record { is = w .is ∙ rw (u .is) step; room = w .room ∙ place }
     where
       step : _≡_ {A = Gather} (record {
-        lists = listSet (listsTo g ls count k) k (length (listsBefore g ls count k)) (length (listAt g ls count k));
-        next = length (listsBefore g ls count k) + length (listAt g ls count k);
+        lists = listSet (listsTo g ls count k) k (length (listsBefore g ls count k)) (length (listAt g ls count k)) (length (airAt g ls count k));
+        next = length (listsBefore g ls count k) + length (airAt g ls count k);
       }) (gathered g ls count (suc k))
       step = λ i. record {
-        lists = record { start = firsts-more (λ j. length (listsBefore g ls count j)) k h i; count = firsts-more (λ j. length (listAt g ls count j)) k h i };
-        next = sym (length-append (listsBefore g ls count k) (listAt g ls count k)) i;
+        lists = record {
+          start = firsts-more (λ j. length (listsBefore g ls count j)) k h i;
+          count = firsts-more (λ j. length (listAt g ls count j)) k h i;
+          air = firsts-more (λ j. length (airAt g ls count j)) k h i;
+        };
+        next = sym (length-append (listsBefore g ls count k) (airAt g ls count k)) i;
       }
 
       after : f .next ≡ 0 + length (listsBefore g ls count k)
       after = omega (arith, ap (λ (x : Gather). x .next) (u .is))
 
-      place : written v (f .next) (listAt g ls count k) ≡ written e 0 (listsBefore g ls count k ++ listAt g ls count k)
-      place = ap₂ (λ x n. written x n (listAt g ls count k)) (u .room) after ∙ written-on e 0 (listsBefore g ls count k) (omega arith) (listAt g ls count k)
+      place : written v (f .next) (airAt g ls count k) ≡ written e 0 (listsBefore g ls count k ++ airAt g ls count k)
+      place = ap₂ (λ x n. written x n (airAt g ls count k)) (u .room) after ∙ written-on e 0 (listsBefore g ls count k) (omega arith) (airAt g ls count k)
 
 -- ---- as the loop asks it: l is laid out for its own base, whose labels stand in the room of bytes
 module _ (l : Levels) (count : ℕ) (bytes e : List ℕ) (a : ListsAsked l count bytes (length e)) where
@@ -150,6 +150,10 @@ module _ (l : Levels) (count : ℕ) (bytes e : List ℕ) (a : ListsAsked l count
   unfolding listIn listAt
   list-is k h = ap₂ (listOf (ltb (k + 1) count)) (sides-are k h) (part-is k h)
 
+  air-is : (k : ℕ) → k < count → airIn l count bytes k ≡ airAt B L count k
+  unfolding airIn airAt
+  air-is k h = ap₂ (airOf (ltb (k + 1) count)) (sides-are k h) (part-is k h)
+
   module _ (k : ℕ) (f : Gather) (s : List ℕ) (u : Gathering B L count e k f s) where
     room-left : k ≤ count → length (listsBefore B L count k) ≤ length e
     room-left h = omega (arith, before-le B L count k, air-up-to B L count k count h, a .room)
@@ -170,8 +174,8 @@ module _ (l : Levels) (count : ℕ) (bytes e : List ℕ) (a : ListsAsked l count
           room = omega (arith, ap (λ (x : Gather). x .next) (u .is), before-le B L count k, gathering-same (omega arith), i, w);
         }
 
-    pub gathering-more : (r : Gather) (s′ : List ℕ) → k < count → Gathered s (listIn l count bytes k) k f r s′ → Gathering B L count e (k + 1) r s′
-    gathering-more r s′ h w = rw add-one (gathering-suc B L count e s s′ k f r (omega (arith, a .most)) u (rw (list-is k h) at w))
+    pub gathering-more : (r : Gather) (s′ : List ℕ) → k < count → Gathered s (listIn l count bytes k) (airIn l count bytes k) k f r s′ → Gathering B L count e (k + 1) r s′
+    gathering-more r s′ h w = rw add-one (gathering-suc B L count e s s′ k f r (omega (arith, a .most)) u (rw (list-is k h, air-is k h) at w))
 
     pub gathering-end : k ≤ count → count ≤ k → AllListed B L count e (f .lists) s
     gathering-end h h′ =

@@ -1,4 +1,4 @@
--- The lists of all levels in one room: for each level but the last its band, for the last all its air cells.
+-- The lists of all levels in one room: for each level all its air, the band first; for the last one in the order in which it is swept.
 use Prim.Native.Nat.{ℕ, zero, suc, _+_, _<_, _≤_}
 use mathlib.Core.Path.{_≡_}
 use mathlib.Core.Bool.{cond}
@@ -17,30 +17,37 @@ use Rattle.levels.specs.declared.lists.Gather.{Gather}
 use Rattle.levels.specs.Rooms.{written}
 use Rattle.levels.specs.Levels.{levelsOf, base, startIn, sidesIn}
 use Rattle.levels.specs.AllLabels.{LabelsIn}
-use Rattle.levels.specs.Lists.{listOf}
+use Rattle.levels.specs.Lists.{listOf, airOf}
 
--- the list of level k of count levels, and those of the levels 0, 1, .. k - 1, one after the other
+-- of level k of count levels: what is swept, and all its air; and the air of the levels 0, 1, .. k - 1, one after the other
 unfoldable pub listAt : Sides → List ℕ → ℕ → ℕ → List ℕ
 listAt g ls count k = listOf (ltb (k + 1) count) (sidesAt g k) (labelsAt g ls k)
 
+unfoldable pub airAt : Sides → List ℕ → ℕ → ℕ → List ℕ
+airAt g ls count k = airOf (ltb (k + 1) count) (sidesAt g k) (labelsAt g ls k)
+
 unfoldable pub listsBefore : Sides → List ℕ → ℕ → ℕ → List ℕ
 listsBefore g ls count zero = []
-listsBefore g ls count (suc k) = listsBefore g ls count k ++ listAt g ls count k
+listsBefore g ls count (suc k) = listsBefore g ls count k ++ airAt g ls count k
 
 -- a number for each of the first k of six levels, 0 for the others
 unfoldable pub firsts : (ℕ → ℕ) → ℕ → List ℕ
 firsts f k = tab 6 (λ j. cond (ltb j k) (f j) 0)
 
--- where the lists of the first k levels start, and how long they are
+-- where the lists of the first k levels start, how much of each is swept, and how long it is
 unfoldable pub listsTo : Sides → List ℕ → ℕ → ℕ → Lists
-listsTo g ls count k = record { start = firsts (λ j. length (listsBefore g ls count j)) k; count = firsts (λ j. length (listAt g ls count j)) k }
+listsTo g ls count k = record {
+  start = firsts (λ j. length (listsBefore g ls count j)) k;
+  count = firsts (λ j. length (listAt g ls count j)) k;
+  air = firsts (λ j. length (airAt g ls count j)) k;
+}
 
 -- what count levels' lists leave in the room e, and what comes back of them
 pub record AllListed (g : Sides) (ls : List ℕ) (count : ℕ) (e : List ℕ) (r : Lists) (s : List ℕ) : Type 0 where
   pub lists : r ≡ listsTo g ls count count
   pub room : s ≡ written e 0 (listsBefore g ls count count)
 
--- ---- as the code has them: the labels of level k in the room of bytes, those of level 0, and a level's list
+-- ---- as the code has them: the labels of level k in the room of bytes, those of level 0, and a level's lists
 unfoldable pub partIn : Levels → ℕ → List ℕ → List ℕ
 partIn l k bytes = take (cells (sidesIn l k)) (drop (startIn l k) bytes)
 
@@ -50,16 +57,19 @@ baseLabels l bytes = take (cells (base l)) bytes
 unfoldable pub listIn : Levels → ℕ → List ℕ → ℕ → List ℕ
 listIn l count bytes k = listOf (ltb (k + 1) count) (sidesIn l k) (partIn l k bytes)
 
-abbrev pub listSet : Lists → ℕ → ℕ → ℕ → Lists
-listSet l k at n = record { start = set (l .start) k at; count = set (l .count) k n }
+unfoldable pub airIn : Levels → ℕ → List ℕ → ℕ → List ℕ
+airIn l count bytes k = airOf (ltb (k + 1) count) (sidesIn l k) (partIn l k bytes)
 
--- level k's list is written after those before it
-pub record Gathered (e list : List ℕ) (k : ℕ) (f r : Gather) (s : List ℕ) : Type 0 where
-  pub is : r ≡ record { lists = listSet (f .lists) k (f .next) (length list); next = f .next + length list }
-  pub room : s ≡ written e (f .next) list
+abbrev pub listSet : Lists → ℕ → ℕ → ℕ → ℕ → Lists
+listSet l k at n m = record { start = set (l .start) k at; count = set (l .count) k n; air = set (l .air) k m }
+
+-- level k's air is written after that before it, and so much of it is swept
+pub record Gathered (e swept air : List ℕ) (k : ℕ) (f r : Gather) (s : List ℕ) : Type 0 where
+  pub is : r ≡ record { lists = listSet (f .lists) k (f .next) (length swept) (length air); next = f .next + length air }
+  pub room : s ≡ written e (f .next) air
 
 -- ---- what is asked
--- level k's list from place a on, in a room of the given length
+-- level k's lists from place a on, in a room of the given length
 pub record LevelAsked (l : Levels) (k a : ℕ) (bytes : List ℕ) (words : ℕ) : Type 0 where
   pub below : k < 6
   pub fit : Fit (sidesIn l k)

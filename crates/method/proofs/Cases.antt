@@ -1,5 +1,6 @@
--- Document 01, "Numbers to check by hand", a to l, and the example of "The program": one table, one claim, computed by the checker. Assumes nothing.
-use Prim.Native.Nat.{ℕ, zero, suc, _+_, _*_, _^_}
+-- Document 01, "Numbers to check by hand", a to l, with i and j as document 02 has them (wishes 4 and 3), and the example of "The program": one table, one claim,
+-- computed by the checker. Assumes nothing.
+use Prim.Native.Nat.{ℕ, zero, suc, _+_, _-_, _*_, _^_}
 use mathlib.Core.Bool.{true, false}
 use mathlib.Core.Path.{_≡_, refl}
 use mathlib.Core.List.{List, [], _∷_, _++_, map}
@@ -97,6 +98,12 @@ abbrev pub 512f : Float
 abbrev pub 256f : Float
 256f = fin false 1 (pos 8)
 
+abbrev pub 432f : Float
+432f = fin false 27 (pos 4)
+
+abbrev pub 144f : Float
+144f = fin false 9 (pos 4)
+
 abbrev pub corner : List Float
 corner = prolongated cube (replicate 64 0) (256f ∷ replicate 7 +0)
 
@@ -109,11 +116,33 @@ abbrev pub -½ : Float
 abbrev pub -0 : Float
 -0 = fin true 0 (pos 0)
 
+abbrev pub 1½ : Float
+1½ = fin false 3 (negsuc 0)
+
+abbrev pub 2½ : Float
+2½ = fin false 5 (negsuc 0)
+
+abbrev pub -1½ : Float
+-1½ = fin true 3 (negsuc 0)
+
+abbrev pub -2½ : Float
+-2½ = fin true 5 (negsuc 0)
+
+-- the binary64 next below ½, 0.49999999999999994
+abbrev pub below½ : Float
+below½ = fin false (2 ^ 53 - 1) (negsuc 53)
+
 abbrev pub 2^41f : Float
 2^41f = fin false 1 (pos 41)
 
 abbrev pub 2^41+1f : Float
 2^41+1f = fin false (2 ^ 41 + 1) (pos 0)
+
+abbrev pub 2^41+½f : Float
+2^41+½f = fin false (2 ^ 42 + 1) (negsuc 0)
+
+abbrev pub -2^41-½f : Float
+-2^41-½f = fin true (2 ^ 42 + 1) (negsuc 0)
 
 abbrev pub example : List ℕ
 example =
@@ -133,17 +162,18 @@ table =
     ∷ case (map (slope (pos 0 ∷ pos 9 ∷ pos 20 ∷ pos 30 ∷ [])) (1 ∷ 2 ∷ [])) (pos 2 ∷ negsuc 0 ∷ [])
     ∷ case (map (λ o. valueRead o (0 ∷ 0 ∷ 2 ∷ 0 ∷ [])) (Big ∷ Little ∷ [])) (pos 512 ∷ pos 131072 ∷ [])
     ∷ case (restricted cube (replicate 64 0) (replicate 64 512f)) (replicate 8 (whole 343))
-    ∷ case (map (value corner) (0 ∷ 1 ∷ 2 ∷ [])) (whole 27 ∷ whole 27 ∷ whole 9 ∷ [])
-    ∷ case (map tick (½ ∷ -½ ∷ -0 ∷ [])) (Whole (pos 1) ∷ Whole (negsuc 0) ∷ Whole (pos 0) ∷ [])
+    ∷ case (map (value corner) (0 ∷ 1 ∷ 2 ∷ [])) (432f ∷ 432f ∷ 144f ∷ [])
+    ∷ case (map tick (½ ∷ -½ ∷ -0 ∷ 1½ ∷ 2½ ∷ [])) (Whole (pos 0) ∷ Whole (pos 0) ∷ Whole (pos 0) ∷ Whole (pos 2) ∷ Whole (pos 2) ∷ [])
     ∷ case (map tick (2^41f ∷ 2^41+1f ∷ nan ∷ [])) (Whole (pos (2 ^ 41)) ∷ Refused ∷ Refused ∷ [])
     ∷ case (solving faulty .answer) (answer 4 4 0 0 0 0)
+    ∷ case (map tick (-1½ ∷ -2½ ∷ below½ ∷ 2^41+½f ∷ -2^41-½f ∷ [])) (Whole (negsuc 1) ∷ Whole (negsuc 1) ∷ Whole (pos 0) ∷ Whole (pos (2 ^ 41)) ∷ Whole (negsuc (2 ^ 41 - 1)) ∷ [])
     ∷ case (program example) (text "answer=0\nplace=0\nrounds=1\nworst=0\ninterior=1\ndepth=1\ncell=10\ncell=15\ncell=20\n")
     ∷ []
 
 -- THE CLAIM
 pub all-hold : AllHold table
 unfolding table computing
-all-hold = (refl, (refl, (refl, (refl, (refl, (refl, (refl, (refl, (refl, (refl, (refl, (refl, (refl, (refl, (refl, tt)))))))))))))))
+all-hold = (refl, (refl, (refl, (refl, (refl, (refl, (refl, (refl, (refl, (refl, (refl, (refl, (refl, (refl, (refl, (refl, tt))))))))))))))))
 
 -- ---- each case by itself
 
@@ -187,11 +217,11 @@ pub case-h : restricted cube (replicate 64 0) (replicate 64 512f) ≡ replicate 
 unfolding table
 case-h = holds-at table all-hold 9
 
-pub case-i : map (value corner) (0 ∷ 1 ∷ 2 ∷ []) ≡ whole 27 ∷ whole 27 ∷ whole 9 ∷ []
+pub case-i : map (value corner) (0 ∷ 1 ∷ 2 ∷ []) ≡ 432f ∷ 432f ∷ 144f ∷ []
 unfolding table
 case-i = holds-at table all-hold 10
 
-pub case-j : map tick (½ ∷ -½ ∷ -0 ∷ []) ≡ Whole (pos 1) ∷ Whole (negsuc 0) ∷ Whole (pos 0) ∷ []
+pub case-j : map tick (½ ∷ -½ ∷ -0 ∷ 1½ ∷ 2½ ∷ []) ≡ Whole (pos 0) ∷ Whole (pos 0) ∷ Whole (pos 0) ∷ Whole (pos 2) ∷ Whole (pos 2) ∷ []
 unfolding table
 case-j = holds-at table all-hold 11
 
@@ -203,6 +233,11 @@ pub case-l : solving faulty .answer ≡ answer 4 4 0 0 0 0
 unfolding table
 case-l = holds-at table all-hold 13
 
+-- wish 3: what its sentence leads to besides case j
+pub case-ties : map tick (-1½ ∷ -2½ ∷ below½ ∷ 2^41+½f ∷ -2^41-½f ∷ []) ≡ Whole (negsuc 1) ∷ Whole (negsuc 1) ∷ Whole (pos 0) ∷ Whole (pos (2 ^ 41)) ∷ Whole (negsuc (2 ^ 41 - 1)) ∷ []
+unfolding table
+case-ties = holds-at table all-hold 14
+
 pub case-program : program example ≡ text "answer=0\nplace=0\nrounds=1\nworst=0\ninterior=1\ndepth=1\ncell=10\ncell=15\ncell=20\n"
 unfolding table
-case-program = holds-at table all-hold 14
+case-program = holds-at table all-hold 15

@@ -84,8 +84,9 @@ weighted ls u ds = over (λ d. isAir ls (d .cell)) (λ d a. a ⊕ ofℕ (d .weig
 unfoldable pub restrictionOver : ℕ
 restrictionOver = 512
 
+-- document 02, wish 4: "Prolongation is henceforth the product weight over 16."
 unfoldable pub prolongationOver : ℕ
-prolongationOver = 256
+prolongationOver = 16
 
 unfoldable pub restricted : Sides → List ℕ → List Float → List Float
 restricted s ls u = inAir (halved s) (coarse s ls) (λ c. weighted ls u (drawnBy s c) ⊘ ofℕ restrictionOver)

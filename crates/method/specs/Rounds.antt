@@ -2,7 +2,7 @@
 use Prim.Native.Nat.{ℕ, zero, suc, _+_, _-_, _*_, _/_, _%_, _^_}
 use mathlib.Core.Bool.{Bool, true, false, not, _&&_, cond}
 use mathlib.Core.List.{List, map}
-use lib.Dec.{ltb, leb}
+use lib.Dec.{eqb, ltb, leb}
 use lib.IntN.{ℤ, pos, negℤ}
 use lib.Ieee as Ieee
 use lib.Ieee.{Float, nan, inf, fin}
@@ -29,10 +29,10 @@ rightSide k =
     inAir (k .sides) (k .labels)
     (λ c. ofℤ (over (isOpening (k .labels)) (λ j b. b +ᶻ level (k .labels) (k .values) j) (around (k .sides) c) (field (k .values) c)))
 
--- ---- "round every x to the nearest whole tick, halves away from zero"
--- what lies half way between q and q + 1, away from zero
+-- ---- "round every x to the nearest whole tick", and document 02, wish 3: "a tie goes to the even tick"
+-- what lies half way between q and q + 1: the even one of the two
 unfoldable pub tie : ℕ → ℕ
-tie q = q + 1
+tie q = cond (eqb (q % 2) 0) q (q + 1)
 
 -- the whole number nearest to a / b
 unfoldable pub nearest : ℕ → ℕ → ℕ

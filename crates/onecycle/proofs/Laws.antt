@@ -7,10 +7,11 @@ use native.Mathlib.Omega.{arith}
 use borrow.Author.Needs.{needs}
 use borrow.Author.Tests.{lt-ltb, le-ltb}
 use lib.Dec.{T}
-use lib.ListN.{length, take}
+use lib.ListN.{length, take, set, length-set}
 use lib.Seq.{length-take-le}
 use lib.Ieee.{Float, nan, inf, fin, binary64, eq, isNan, nanBits, ofBits, div}
 use lib.Ieee.Bits.{nanBits-is, nanBits-above}
+use Rattle.laws.specs.Binary64.{+0}
 use Rattle.method.specs.declared.Sides.{Sides}
 use Rattle.method.specs.Cast.{cells, judged, interior}
 use Rattle.method.specs.Cycle.{cycle}
@@ -28,10 +29,10 @@ use Rattle.levels.specs.AllLabels.{LabelsAsked, allLabels}
 use Rattle.levels.specs.AllLists.{baseLabels, AllListed, ListsAsked}
 use Rattle.levels.proofs.Calls.{base-is, labels-asked, base-labels, lists-asked}
 use Rattle.smooth.specs.Fields.{u-of, b-of}
-use Rattle.cycle.specs.Strokes.{Put}
+use Rattle.cycle.specs.Strokes.{Ended, Put}
 use Rattle.cycle.specs.Rooms.{Ready, cellsOf, cycleFrom, fieldsFrom, Cycled}
 use Rattle.cycle.proofs.Laws.{put-then}
-use Rattle.cycle.proofs.Calls.{prepared-from, ready-first, fields-most}
+use Rattle.cycle.proofs.Calls.{prepared-from, ready-first, fields-most, zero-end, zero-part, cycled-end}
 use Rattle.onecycle.specs.Run.{Asked}
 
 -- ---- bits
@@ -70,7 +71,7 @@ module _ (l : Levels) (bytes : List ℕ) (count k : ℕ) (e d : List Float) (p :
   pub ready-after : (s : Lists) (words : List ℕ) → Ready l s count k bytes words (length e) → Ready l s count k bytes words (length d)
   ready-after s words z = rw (p .long) z
 
-pub ruleset again = (needs, cycled-same, cycled-then, ready-after)
+pub ruleset again = (needs, cycled-same, cycled-then, ready-after, cycled-end)
 
 -- ---- the lists of a cast's levels, with or without openings, are no longer than the levels
 interior-le : (g : Sides) (ls : List ℕ) → interior g ls ≤ cells g
@@ -95,19 +96,27 @@ module _ (g : Sides) (count : ℕ) (ls old words : List ℕ) (r : ℕ) (z : Aske
     asked-lists = lists-asked l count ls old bytes asked-labels eb (length words) kb air-room
 
     module _ (s : Lists) (listed : List ℕ) (kw : length listed ≡ length words) (p : AllListed (base l) (baseLabels l bytes) count words s listed) where
-      pub run-ready : Ready l s count 0 bytes listed r
-      run-ready = ready-first l s count bytes listed r
+      pub run-ready : (d : List Float) → length d ≡ r → Ready l s count 0 bytes listed (length d)
+      run-ready d q = rw q (ready-first l s count bytes listed r
           (prepared-from l count ls old bytes words listed s asked-labels eb kb air-room kw p)
-          (rw (base-is g l el) (omega (arith, fields-most g count (z .fit) (z .most), z .room-enough)))
+          (rw (base-is g l el) (omega (arith, fields-most g count (z .fit) (z .most), z .room-enough))))
 
-    pub run-is : (e x : List Float) → Cycled l bytes count 0 e x → u-of (cells g) x ≡ cycle 0 (count - 1) g ls (b-of (cells g) e)
+    pub run-is : (e d x : List Float) → length e ≡ r → d ≡ set e (length e - 1) +0 → Cycled l bytes count 0 d x
+        → u-of (cells g) x ≡ cycle 0 (count - 1) g ls (b-of (cells g) e)
     unfolding sidesAt labelsAt
-    run-is e x q =
+    run-is e d x k p q =
         let c : count - 1 - 0 ≡ count - 1 = omega arith in
-        let o : u-of (cells (base l)) x ≡ cycle 0 (count - 1 - 0) (base l) (baseLabels l bytes) (b-of (cells (base l)) e) = q .u in
-        rw (base-is g l el, base-labels l count ls old bytes asked-labels eb, c) at o
+        let o : u-of (cells (base l)) x ≡ cycle 0 (count - 1 - 0) (base l) (baseLabels l bytes) (b-of (cells (base l)) d) = q .u in
+        let o′ : u-of (cells g) x ≡ cycle 0 (count - 1) g ls (b-of (cells g) d) = rw (base-is g l el, base-labels l count ls old bytes asked-labels eb, c) at o in
+        o′ ∙ ap (cycle 0 (count - 1) g ls) (ap (b-of (cells g)) p ∙ zero-part e (cells g) (cells g) (omega (arith, z .room-enough)))
 
-pub ruleset running = (needs, asked-labels, asked-lists, run-ready, run-is)
+  pub run-end : (e d : List Float) → length e ≡ r → d ≡ set e (length e - 1) +0 → Ended (fieldsFrom (base l) count 0) d
+  run-end e d k p =
+      rw p
+      (zero-end e (fieldsFrom (base l) count 0)
+      (rw (base-is g l el) (omega (arith, fields-most g count (z .fit) (z .most), z .room-enough))))
+
+pub ruleset running = (needs, asked-labels, asked-lists, run-is)
 
 -- ---- the rooms of a cast
 module _ (g : Sides) (count n bytes words room : ℕ) (z : Asked g count n bytes words room) where
@@ -118,7 +127,7 @@ module _ (g : Sides) (count n bytes words room : ℕ) (z : Asked g count n bytes
   two-fields = omega (arith, z .full, z .room-enough)
 
 pub asked-is : (g : Sides) (count n bytes words room : ℕ) (ls : List ℕ) → Fit g → (1 ≤ count) × (count ≤ 6) → n ≡ cells g → n ≤ length ls
-    → 2 * n + 16 ≤ bytes → 2 * n + 5 ≤ words → 6 * n + 15 ≤ room → Asked g count (length (take n ls)) bytes words room
+    → 2 * n + 16 ≤ bytes → 2 * n + 5 ≤ words → 6 * n + 16 ≤ room → Asked g count (length (take n ls)) bytes words room
 unfolding byteNeed
 asked-is g count n bytes words room ls z h e k b w r = record {
   fit = z;

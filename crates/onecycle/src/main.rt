@@ -16,7 +16,9 @@ ghost use Rattle.method.specs.Cast.{cells};
 ghost use Rattle.method.specs.Cycle.{cycle};
 ghost use Rattle.theory.proofs.Sides.{Fit};
 ghost use Rattle.smooth.specs.Fields.{u-of, b-of};
-ghost use Rattle.cycle.specs.Rooms.{Ready, Cycled};
+ghost use Rattle.levels.specs.Levels.{base};
+ghost use Rattle.cycle.specs.Strokes.{Ended};
+ghost use Rattle.cycle.specs.Rooms.{fieldsFrom, Ready, Cycled};
 ghost use Rattle.onecycle.specs.Run.{Asked};
 
 // What stands at the head of a frame.
@@ -127,6 +129,7 @@ fn cycles(
     times: usize,
 )
     requires { ⌜ Ready l s count 0 (now bytes) (now words) (length (now room)) ⌝ }
+    requires { ⌜ Ended (fieldsFrom (base l) count 0) (now room) ⌝ }
     ensures { λ _. ⌜ Cycled l (now (bytes .entry)) count 0 (now (room .entry)) (now (room .exit)) ⌝ }
 {
     cycle::cycle(room, bytes, words, l, s, count, 0);
@@ -153,6 +156,7 @@ fn run(
     let l = levels::sides::levels_of(g);
     levels::labels::all_labels(bytes, labels, l, count);
     let s = levels::lists::all_lists(words, bytes, l, count);
+    cycle::end_in_zero(room);
     cycles(room, bytes, words, l, s, count, times);
 }
 
@@ -234,7 +238,7 @@ fn cast(
     if words.len() < 2 * n + 5 {
         return bad();
     }
-    if room.len() < 6 * n + 15 {
+    if room.len() < 6 * n + 16 {
         return bad();
     }
     cycle_lines(room, bytes, words, raw, &labels[..n], g, count, times)
@@ -312,7 +316,7 @@ fn all_frames(
 
 // Rooms for the greatest cast, of 32,768 cells.
 fn main() {
-    let mut room = [0.0f64; 196623];
+    let mut room = [0.0f64; 196624];
     let mut bytes = [0u8; 65552];
     let mut words = [0u32; 65541];
     let mut raw = [0u8; 262144];

@@ -17,12 +17,13 @@ use Rattle.laws.proofs.Naturals.{le-or-lt}
 use Rattle.method.specs.declared.Found.{Found}
 use Rattle.method.specs.declared.Found.the-variants.{Nowhere, At}
 use Rattle.method.specs.Cast.{between, cells, sidesFit}
-use Rattle.method.specs.Form.{digits, isDigit, isNumber, valueOf, Line, bad, good, after, closed, numberLine, orderLine, lines, Lines, wrong, right, more, readLines, headerOf, header, wrongLine, badLine}
+use Rattle.method.specs.Form.{lastDigit, spelled, decimal, orderWord, line, headerWritten, digits, isDigit, isNumber, valueOf, Line, bad, good, after, closed, numberLine, orderLine, lines, Lines, wrong, right, more, readLines, headerOf, header, wrongLine, badLine}
 use Rattle.method.specs.Answers.{Verdict, refused, verdict}
 use Rattle.method.specs.Calls.{lineCheck, sideCheck, bodyCheck}
 use Rattle.method.specs.Program.{programRoom, programChecks, printed, program}
 use Rattle.theory.proofs.Lines.{after-is}
 use Rattle.checks.proofs.RuleLaws.{fails-at, passes-on, fault-no, fault-yes}
+use Rattle.prints.specs.Prints.{longestHeader, inputRoom}
 use Rattle.prints.proofs.Rules.{bare, printed-refused, fault-too-many, fault-none}
 
 -- what is read, where more bytes follow
@@ -336,10 +337,22 @@ front-decides room bs tail h =
     (verdict-long room (bs ++ tail) (omega (arith, length-append bs tail)) f t u (same-line bs tail l) (ap sidesFit (same-sides bs tail l)) (ap (λ s. ltb room (cells s)) (same-sides bs tail l)))
     (verdict-long room bs h f t u refl refl refl)
 
--- the program's buffer
-pub front-is-enough : (bs : List ℕ) → program (take 5095 bs) ≡ program bs
-unfolding program programRoom
+-- ---- the program's buffer, from the longest header and the program's room
+header-room : length longestHeader ≡ 94
+unfolding longestHeader headerWritten line orderWord decimal spelled lastDigit
+header-room = refl
+
+pub input-room : inputRoom ≡ 5 * programRoom + 95
+unfolding inputRoom
+input-room = omega (arith, header-room)
+
+pub front-is-enough : (bs : List ℕ) → program (take inputRoom bs) ≡ program bs
+unfolding program
 front-is-enough bs = ⊎-elim
-    (λ l. sym (front-decides 1000 (take 5095 bs) (drop 5095 bs) (omega (arith, length-take-le 5095 bs l))) ∙ ap (printed 1000) (take-append-drop 5095 bs))
-    (λ l. ap (printed 1000) (take-all 5095 bs (omega arith)))
-    (le-or-lt 5095 (length bs))
+    (λ l. sym (front-decides programRoom (take inputRoom bs) (drop inputRoom bs) (omega (arith, input-room, length-take-le inputRoom bs l))) ∙ ap (printed programRoom) (take-append-drop inputRoom bs))
+    (λ l. ap (printed programRoom) (take-all inputRoom bs (omega arith)))
+    (le-or-lt inputRoom (length bs))
+
+-- an input is known by its front: inputs with the same front have the same print
+pub front-prints : (bs input : List ℕ) → take inputRoom bs ≡ input → program input ≡ program bs
+front-prints bs input e = ap program (sym e) ∙ front-is-enough bs

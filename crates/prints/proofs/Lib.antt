@@ -2,3 +2,5 @@
 pub mod Rooms
 pub mod Rules
 pub mod Fronts
+pub mod Told
+pub mod Bounds

@@ -6,7 +6,7 @@ use mathlib.Core.List.{List, _++_}
 use native.Mathlib.Omega.{arith}
 use borrow.Author.Needs.{needs}
 use borrow.Rule.Slice.PartMut.{midOf, putMid}
-use lib.ListN.{length, getD, take, drop, length-append, length-drop}
+use lib.ListN.{length, getD, set, take, drop, length-append, length-drop, length-set}
 use lib.Seq.{take-at, drop-at, length-take-le, drop-drop, take-append-le}
 use lib.Ieee.{Float, nan}
 use Rattle.laws.specs.Loops.{up}
@@ -26,10 +26,10 @@ use Rattle.theory.proofs.Sides.{Fit}
 use Rattle.levels.specs.Levels.{base}
 use Rattle.smooth.specs.Fields.{u-of, b-of}
 use Rattle.smooth.proofs.After.{inAir-length}
-use Rattle.cycle.specs.Strokes.{Put}
+use Rattle.cycle.specs.Strokes.{Ended, Put}
 use Rattle.cycle.specs.Rooms.{Ready, Cycled, fieldsFrom}
-use Rattle.cycle.proofs.Laws.{part-first, lent-is, home-is}
-use Rattle.cycle.proofs.Calls.{ready-first, fields-most}
+use Rattle.cycle.proofs.Laws.{part-first, lent-is, home-is, end-lent}
+use Rattle.cycle.proofs.Calls.{ready-first, fields-most, zero-end, zero-part}
 use Rattle.rounds.specs.declared.Plan.{Plan}
 use Rattle.trial.specs.declared.Tested.{Tested}
 use Rattle.trial.specs.Trial.{tested}
@@ -88,35 +88,51 @@ test-is g ls k t e v h q =
     let none : 0 * length ls ≡ 0 = omega arith in
     q ∙ ap₂ (λ j i. tested k t (take j (drop i e))) m none
 
--- ---- z, lent to the cycle with all that follows it
-module _ (plan : Plan) (bytes words : List ℕ) (n : ℕ) (e : List Float) (z : Prepared plan bytes words n (length e)) where
-  cycle-long : length (midOf (2 * n) (length e - 2 * n) e) ≡ length e - 2 * n
-  cycle-long = ap length (lent-is (2 * n) e e (omega (arith, z .roomy))) ∙ length-drop (2 * n) e
+-- ---- z, lent to the cycle with all that follows it, once the room ends in a zero
+module _ (plan : Plan) (bytes words : List ℕ) (n : ℕ) (e : List Float) (z : Prepared plan bytes words n (length e)) (d : List Float) (q : d ≡ set e (length e - 1) +0) where
+  same-long : length d ≡ length e
+  same-long = ap length q ∙ length-set e (length e - 1) +0
 
-  pub cycle-ready : Ready (plan .levels) (plan .lists) (plan .count) 0 bytes words (length (midOf (2 * n) (length e - 2 * n) e))
+  two-inside : 2 * n ≤ length d
+  two-inside = omega (arith, z .roomy, same-long)
+
+  lent : midOf (2 * n) (length d - 2 * n) d ≡ drop (2 * n) d
+  lent = lent-is (2 * n) d d two-inside
+
+  fields-fit : 2 * n + fieldsFrom (planSides plan) (plan .count) 0 < length e
+  fields-fit = omega (arith, z .size, z .roomy, fields-most (planSides plan) (plan .count) (z .levels .fit) (z .levels .most))
+
+  pub cycle-ready : Ready (plan .levels) (plan .lists) (plan .count) 0 bytes words (length (midOf (2 * n) (length d - 2 * n) d))
   cycle-ready = ready-first (plan .levels) (plan .lists) (plan .count) bytes words _ (z .levels)
-      (omega (arith, cycle-long, z .size, z .roomy, fields-most (planSides plan) (plan .count) (z .levels .fit) (z .levels .most)))
+      (omega (arith, ap length lent, length-drop (2 * n) d, same-long, fields-fit))
 
-  pub drawn-is : (c : List Float) → Cycled (plan .levels) bytes (plan .count) 0 (midOf (2 * n) (length e - 2 * n) e) c
-      → Drawn (planSides plan) (planLabels plan bytes) (below plan) n e (putMid (2 * n) (length e - 2 * n) e c)
+  pub cycle-end : Ended (fieldsFrom (planSides plan) (plan .count) 0) (midOf (2 * n) (length d - 2 * n) d)
+  cycle-end =
+      let all : Ended (2 * n + fieldsFrom (planSides plan) (plan .count) 0) d = rw q (zero-end e (2 * n + fieldsFrom (planSides plan) (plan .count) 0) fields-fit) in
+      rw lent (end-lent (2 * n) (fieldsFrom (planSides plan) (plan .count) 0) d all)
+
+  part-same : (k : ℕ) → k ≤ 3 * n → take n (drop k d) ≡ take n (drop k e)
+  part-same k h = ap (λ s. take n (drop k s)) q ∙ zero-part e k n (omega (arith, z .roomy))
+
+  pub drawn-is : (c : List Float) → Cycled (plan .levels) bytes (plan .count) 0 (midOf (2 * n) (length d - 2 * n) d) c
+      → Drawn (planSides plan) (planLabels plan bytes) (below plan) n e (putMid (2 * n) (length d - 2 * n) d c)
   unfolding sidesAt labelsAt
   drawn-is c y =
-      let inside : 2 * n ≤ length e = omega (arith, z .roomy) in
-      let lent : midOf (2 * n) (length e - 2 * n) e ≡ drop (2 * n) e = lent-is (2 * n) e c inside in
-      let home : putMid (2 * n) (length e - 2 * n) e c ≡ take (2 * n) e ++ c = home-is (2 * n) e c inside in
-      let y′ : Put n (fieldsFrom (planSides plan) (plan .count) 0) (cycle 0 (plan .count - 1 - 0) (planSides plan) (planLabels plan bytes) (b-of n (drop (2 * n) e))) (drop (2 * n) e) c =
+      let home : putMid (2 * n) (length d - 2 * n) d c ≡ take (2 * n) d ++ c = home-is (2 * n) d c two-inside in
+      let y′ : Put n (fieldsFrom (planSides plan) (plan .count) 0) (cycle 0 (plan .count - 1 - 0) (planSides plan) (planLabels plan bytes) (b-of n (drop (2 * n) d))) (drop (2 * n) d) c =
       rw (lent, sym (z .size)) at y in
-      let top : length (take (2 * n) e) ≡ 2 * n = length-take-le (2 * n) e inside in
+      let top : length (take (2 * n) d) ≡ 2 * n = length-take-le (2 * n) d two-inside in
       let low : plan .count - 1 - 0 ≡ below plan = omega arith in
       let three : 2 * n + n ≡ 3 * n = omega arith in
       let r-at : (l : List Float) → b-of n (drop (2 * n) l) ≡ r-of n l = λ l. ap (take n) (drop-drop n (2 * n) l ∙ ap (λ j. drop j l) three) in
-      let tail : drop (2 * n) (take (2 * n) e ++ c) ≡ c = drop-at (take (2 * n) e) c (2 * n) top in
-      let new : Drawn (planSides plan) (planLabels plan bytes) (below plan) n e (take (2 * n) e ++ c) = record {
-        x = part-first (take (2 * n) e) c 0 n (omega arith) ∙ part-take 0 n (2 * n) e (omega arith);
-        p = part-first (take (2 * n) e) c n n (omega arith) ∙ part-take n n (2 * n) e (omega arith);
-        z = ap (take n) tail ∙ y′ .u ∙ ap₂ (λ j b. cycle 0 j (planSides plan) (planLabels plan bytes) b) low (r-at e);
-        r = sym (r-at (take (2 * n) e ++ c)) ∙ ap (b-of n) tail ∙ y′ .b ∙ r-at e;
-        long = omega (arith, length-append (take (2 * n) e) c, top, y′ .long, length-drop (2 * n) e);
+      let r-same : b-of n (drop (2 * n) d) ≡ r-of n e = r-at d ∙ part-same (3 * n) (omega arith) in
+      let tail : drop (2 * n) (take (2 * n) d ++ c) ≡ c = drop-at (take (2 * n) d) c (2 * n) top in
+      let new : Drawn (planSides plan) (planLabels plan bytes) (below plan) n e (take (2 * n) d ++ c) = record {
+        x = part-first (take (2 * n) d) c 0 n (omega arith) ∙ part-take 0 n (2 * n) d (omega arith) ∙ part-same 0 (omega arith);
+        p = part-first (take (2 * n) d) c n n (omega arith) ∙ part-take n n (2 * n) d (omega arith) ∙ part-same n (omega arith);
+        z = ap (take n) tail ∙ y′ .u ∙ ap₂ (λ j b. cycle 0 j (planSides plan) (planLabels plan bytes) b) low r-same;
+        r = sym (r-at (take (2 * n) d ++ c)) ∙ ap (b-of n) tail ∙ y′ .b ∙ r-same;
+        long = omega (arith, length-append (take (2 * n) d) c, top, y′ .long, length-drop (2 * n) d, same-long);
       } in
       rw home new
 
@@ -210,4 +226,4 @@ module _ (g : Sides) (ls : List ℕ) (alpha : Float) (e m s : List Float) (h : H
         long = put-length (3 * n) n w m s w-long w-fits b′ ∙ m-long;
       }
 
-pub ruleset turns = (needs, fit-planned, held, held-after, same-planned, prepared-here, inner-is, test-is, cycle-ready, drawn-is, rho-is, sigma-is, scaled-is, advanced-is)
+pub ruleset turns = (needs, fit-planned, held, held-after, same-planned, prepared-here, inner-is, test-is, cycle-ready, cycle-end, drawn-is, rho-is, sigma-is, scaled-is, advanced-is)

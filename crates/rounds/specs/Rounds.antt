@@ -1,5 +1,5 @@
 -- What the room of a round holds, and what each part of a round makes of it.
-use Prim.Native.Nat.{ℕ, zero, suc, _+_, _-_, _*_, _≤_}
+use Prim.Native.Nat.{ℕ, zero, suc, _+_, _-_, _*_, _≤_, _<_}
 use mathlib.Core.Path.{_≡_}
 use mathlib.Core.List.{List}
 use lib.ListN.{length}
@@ -55,11 +55,11 @@ planSides plan = base (plan .levels)
 abbrev pub planLabels : Plan → List ℕ → List ℕ
 planLabels plan bytes = baseLabels (plan .levels) bytes
 
--- levels and lists as prepared, n cells on level 0, and r elements of room
+-- levels and lists as prepared, n cells on level 0, and r elements of room, of which one is spare
 pub record Prepared (plan : Plan) (bytes words : List ℕ) (n r : ℕ) : Type 0 where
   pub levels : Rooms.Prepared (plan .levels) (plan .lists) (plan .count) bytes words
   pub size : n ≡ cells (planSides plan)
-  pub roomy : 8 * n + 15 ≤ r
+  pub roomy : 8 * n + 15 < r
 
 -- the same for the cast of these sides and labels
 pub record Planned (plan : Plan) (bytes words : List ℕ) (g : Sides) (ls : List ℕ) (r : ℕ) : Type 0 where

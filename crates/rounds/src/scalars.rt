@@ -64,7 +64,7 @@ fn inner(room: &[f64], labels: &[u8], g: Sides, a: usize, b: usize) -> f64
     fields::dot(&room[a..c], &room[b..d], labels, g)
 }
 
-// z = cycle(r): the cycle is lent the room from z on.
+// z = cycle(r): the cycle is lent the room from z on, whose last element is spare and becomes the zero that entries read.
 fn precondition(room: &mut [f64], bytes: &[u8], words: &[u32], plan: Plan, n: usize)
     requires { ⌜ Prepared plan (now bytes) (now words) n (length (now room)) ⌝ }
     ensures { λ _. ⌜ Drawn (planSides plan) (planLabels plan (now (bytes .entry))) (below plan) n (now (room .entry)) (now (room .exit)) ⌝ }
@@ -72,6 +72,7 @@ fn precondition(room: &mut [f64], bytes: &[u8], words: &[u32], plan: Plan, n: us
     let l = plan.levels;
     let s = plan.lists;
     let count = plan.count;
+    cycle::end_in_zero(room);
     let from = 2 * n;
     cycle::cycle(&mut room[from..], bytes, words, l, s, count, 0);
 }

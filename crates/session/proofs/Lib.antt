@@ -5,3 +5,4 @@ pub mod JudgeLaws
 pub mod ReadLaws
 pub mod WriteLaws
 pub mod Unique
+pub mod Trips

@@ -18,6 +18,7 @@ use Rattle.method.specs.Form as form
 use Rattle.method.specs.Answers.{fault, passed, refused, verdict, refusal, done, filled}
 use Rattle.method.specs.Calls.{Reading, lineCheck, sideCheck, bodyCheck, roomCheck, contentChecks, readerChecks, notRead, isRead, readingBy, reading}
 use Rattle.words.specs.Body.{valueIn}
+use Rattle.theory.specs.Sessions.{Bytes}
 use Rattle.theory.proofs.Sides.{Fit, fit}
 use Rattle.session.specs.Reads.{FitIf, ReadOf, asked, takenOf, verdictOf, ReadyIf, JudgedOf}
 use Rattle.checks.proofs.RuleLaws.{verdict-agree}
@@ -110,12 +111,12 @@ module _ (bytes : List ℕ) (room : ℕ) (j : Judged) (t : Taken) (z : JudgedOf 
 abbrev stored : List ℕ → Taken → List ℤ → List ℤ
 stored bytes t old = filled (t .count) (tab (t .count) (valueIn (drop (t .start) bytes) (t .count) (t .session .order))) old
 
-module _ (bytes : List ℕ) (old : List ℤ) where
+module _ (bytes : List ℕ) (old : List ℤ) (known : Bytes bytes) where
   read-of : (j : Judged) → JudgedOf bytes (length old) j → ReadOf bytes old (takenOf j .session) (stored bytes (takenOf j) old)
   unfolding takenOf verdictOf ReadyIf notRead headerOf isRead valuesIn valueIn filled tab
   read-of (Refused num place) z =
       let q = reading-refused (lent bytes old) num place (same-verdict bytes old ∙ z .is) in
-      record { answer = rw q; sides = rw q; order = rw q; settings = rw q; values = rw q }
+      record { answer = rw q; sides = rw q; order = rw q; settings = rw q; values = rw q; are-bytes = known }
   read-of (Passed h) z =
       let H = z .ready .sized .is in
       let q = reading-passed (lent bytes old) (same-verdict bytes old ∙ z .is) in
@@ -125,6 +126,7 @@ module _ (bytes : List ℕ) (old : List ℤ) where
         order = sym (ap (λ r. r .header .order) q ∙ ap (λ x. x .order) H);
         settings = sym (ap (λ r. r .header .settings) q ∙ ap (λ x. x .settings) H);
         values = sym (ap (λ r. r .values) q ∙ ap (λ x. filled (cells (x .sides)) (valuesIn x) old) H);
+        are-bytes = known;
       }
 
   pub read-taken : (new : List ℤ) (j : Judged) (t : Taken) (body : List ℕ) → JudgedOf bytes (length old) j → t ≡ takenOf j → body ≡ drop (t .start) bytes

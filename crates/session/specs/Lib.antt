@@ -1,3 +1,4 @@
 -- What the contracts of this crate cite, beside the meaning in method.
 pub mod Reads
 pub mod Writes
+pub mod Trips

@@ -12,6 +12,7 @@ use Rattle.method.specs.declared.Order.{Order}
 use Rattle.method.specs.declared.Settings.{Settings}
 use Rattle.method.specs.declared.Found.the-variants.{Nowhere}
 use Rattle.method.specs.declared.Order.the-variants.{Big}
+use Rattle.theory.specs.Sessions.{Bytes}
 use Rattle.theory.proofs.Sides.{Fit}
 use Rattle.method.specs.Form.{header, badLine}
 use Rattle.method.specs.Answers.{Verdict, passed, refused, verdict, fault, refusal, done}
@@ -27,13 +28,14 @@ use Rattle.session.specs.declared.Judged.the-variants.{Refused, Passed}
 use Rattle.session.specs.declared.Session.{Session}
 use Rattle.session.specs.declared.Taken.{Taken}
 
--- THE PROMISE of `read`: what comes back, and what the lent values hold, are those of method's `reading`.
+-- THE PROMISE of `read`: what comes back, and what the lent values hold, are those of method's `reading`; and what was read is bytes, as its type says.
 pub record ReadOf (bytes : List ℕ) (old : List ℤ) (r : Session) (new : List ℤ) : Type 0 where
   pub answer : r .answer ≡ reading (record { bytes = bytes; values = old }) .answer
   pub sides : r .sides ≡ reading (record { bytes = bytes; values = old }) .header .sides
   pub order : r .order ≡ reading (record { bytes = bytes; values = old }) .header .order
   pub settings : r .settings ≡ reading (record { bytes = bytes; values = old }) .header .settings
   pub values : new ≡ reading (record { bytes = bytes; values = old }) .values
+  pub are-bytes : Bytes bytes
 
 -- a session read with room for so many values: no check looks at what the values are
 abbrev pub asked : List ℕ → ℕ → Reading

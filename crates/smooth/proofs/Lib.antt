@@ -4,3 +4,4 @@ pub mod Turns
 pub mod Fields
 pub mod Sweeps
 pub mod After
+pub mod EntryLaws

@@ -1,18 +1,15 @@
 -- Sweeps of the room are sweeps of the fields in it, and over the list of the cells that pass a test they are the meaning's. Assumes nothing.
-use Prim.Native.Nat.{ℕ, zero, suc, _-_, _*_, _≤_, _<_}
+use Prim.Native.Nat.{ℕ, zero, suc, _*_, _≤_, _<_}
 use mathlib.Core.Path.{_≡_, refl, sym, ap, _∙_}
 use mathlib.Core.Bool.{Bool, true, false, cond}
 use mathlib.Core.List.{List, [], _∷_, _++_, append-nil}
 use native.Mathlib.Omega.{arith}
 use lib.ListN.{length, getD, set, take, drop, length-set, length-append, take-append-drop, List·getD-append}
 use lib.Seq.{take-at, drop-at, length-take-le, getD-append-seam}
-use mir.Syntax.{w64}
-use mir.Val.{Fits}
 use lib.Ieee.{Float}
 use Rattle.laws.specs.Binary64.{_⊕_}
 use Rattle.laws.specs.Loops.{up, down}
 use Rattle.laws.specs.Lists.{kept, chosen}
-use Rattle.laws.proofs.Loops.{ups, downs}
 use Rattle.laws.proofs.Fill.{up-same}
 use Rattle.laws.proofs.Fills.{down-within, up-front, down-front}
 use Rattle.method.specs.declared.Sides.{Sides}
@@ -20,11 +17,9 @@ use Rattle.method.specs.Cast.{cells, isAir}
 use Rattle.method.specs.Levels.{value}
 use Rattle.method.specs.Cycle.{change, relaxed, ascending, descending}
 use Rattle.theory.specs.Waves.{waves}
-use Rattle.theory.proofs.Sides.{Fit}
-use Rattle.theory.proofs.Waves.{wave-up, wave-down, waves-below}
-use Rattle.grid.proofs.Steps.{cells-most}
+use Rattle.theory.proofs.Waves.{wave-up, wave-down}
 use Rattle.smooth.specs.Fields.{u-of, b-of, relaxTurn}
-use Rattle.smooth.specs.Sweeps.{relaxedAt, sweptUp, sweptDown, Below}
+use Rattle.smooth.specs.Sweeps.{relaxedAt, sweptUp, sweptDown}
 
 -- ---- from the room to the fields
 pub relaxed-length : (g : Sides) (ls : List ℕ) (at : ℕ → Bool) (b : List Float) (c : ℕ) (u : List Float) → length (relaxed g ls at b c u) ≡ length u
@@ -60,21 +55,6 @@ module _ (g : Sides) (ls cs : List ℕ) (s t : List Float) (h : 3 * cells g ≤ 
       (λ k u. relaxed-length g ls (isAir ls) (b-of (cells g) s) (getD cs k 0) u)
       (λ k u l. turn-front g ls (getD cs k 0) u (drop (cells g) s) l)
       (length cs) (u-of (cells g) s) (length-take-le (cells g) s (omega arith))
-
-pub below-at : (n : ℕ) (cs : List ℕ) (k : ℕ) → Below n cs → k < length cs → getD cs k 0 < n
-below-at n cs k b h = b .at k h
-
--- the turn before, as a loop that descends reads it
-pub below-back : (n : ℕ) (cs : List ℕ) (k : ℕ) → Below n cs → 0 < k → k ≤ length cs → getD cs (k - 1) 0 < n
-below-back n cs k b p h = b .at (k - 1) (omega arith)
-
--- a cell's number fits
-pub cell-fits : (g : Sides) (c : ℕ) → Fit g → c < cells g → Fits w64 c
-cell-fits g c z h = omega (arith, cells-most g z)
-
-pub ruleset sweeping-up = (ups, below-at, cell-fits, sweep-up-is)
-
-pub ruleset sweeping-down = (downs, below-back, cell-fits, sweep-down-is)
 
 -- ---- a loop over the cells that pass a test is a loop over all cells that tests each
 module _ {A : Type 0} (f : ℕ → A → A) where
@@ -160,6 +140,3 @@ module _ (g : Sides) (ls : List ℕ) (at : ℕ → Bool) (air : (c : ℕ) → at
   pub waves-descending : (u : List Float) → sweptDown g ls (waves g at) b u ≡ descending g ls at b u
   unfolding sweptDown
   waves-descending u = wave-down g ls (isAir ls) b at u ∙ chosen-descending u
-
-pub waves-in : (g : Sides) (at : ℕ → Bool) → Below (cells g) (waves g at)
-waves-in g at = record { at = waves-below g at }

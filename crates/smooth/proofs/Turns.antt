@@ -74,12 +74,6 @@ module _ (g : Sides) (ls : List ℕ) (c : ℕ) (e : List Float) (len : length ls
       ∙ ap (λ t. cond t (set (u-of (cells g) e) c (value (u-of (cells g) e) c ⊕ change g ls (b-of (cells g) e) (u-of (cells g) e) c)) (u-of (cells g) e) ++ drop (cells g) e)
       (sym (air-yes ls c (omega arith) a))
 
-  pub relax-other : (getD ls c 0 ≡ 0 → ⊥) → e ≡ relaxTurn g ls c e
-  unfolding relaxed
-  relax-other a = sym (take-append-drop (cells g) e)
-      ∙ ap (λ t. cond t (set (u-of (cells g) e) c (value (u-of (cells g) e) c ⊕ change g ls (b-of (cells g) e) (u-of (cells g) e) c)) (u-of (cells g) e) ++ drop (cells g) e)
-      (sym (air-no ls c (omega arith) a))
-
   old-at : getD e (2 * length ls + c) nan ≡ value (t-of (cells g) e) c
   old-at = ap (λ n. getD e (2 * n + c) nan) len ∙ sym (getD-take (cells g) (drop (2 * cells g) e) c nan l ∙ getD-drop (2 * cells g) e c nan)
 
@@ -114,4 +108,4 @@ module _ (g : Sides) (ls : List ℕ) (c : ℕ) (e : List Float) (len : length ls
       ap₂ (λ n x. set e (2 * n + c) x) len
       (ap (λ t. cond t (rest g ls (b-of (cells g) e) (u-of (cells g) e) c) +0) (sym (air-no ls c (omega arith) a)))
 
-pub ruleset turns = (needs, d-is, applied-is, rest-is, relax-air, relax-other, jacobi-air, jacobi-other, residue-air, residue-other)
+pub ruleset turns = (needs, d-is, applied-is, rest-is, jacobi-air, jacobi-other, residue-air, residue-other)

@@ -1,3 +1,4 @@
 -- The definitions that the crate's contracts cite.
 pub mod Fields
 pub mod Sweeps
+pub mod Entries

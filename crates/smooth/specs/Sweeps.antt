@@ -1,5 +1,5 @@
 -- Sweeps over a list of cells.
-use Prim.Native.Nat.{ℕ, _<_}
+use Prim.Native.Nat.{ℕ}
 use mathlib.Core.List.{List}
 use lib.ListN.{length, getD}
 use lib.Ieee.{Float}
@@ -18,7 +18,3 @@ sweptUp g ls cs b u = up (relaxedAt g ls cs b) (length cs) u
 
 unfoldable pub sweptDown : Sides → List ℕ → List ℕ → List Float → List Float → List Float
 sweptDown g ls cs b u = down (relaxedAt g ls cs b) (length cs) u
-
--- each number of the list is below n
-pub record Below (n : ℕ) (cs : List ℕ) : Type 0 where
-  pub at : (k : ℕ) → k < length cs → getD cs k 0 < n

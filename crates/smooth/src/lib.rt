@@ -1,4 +1,4 @@
-// One level of the V-cycle in binary64: relaxation, sweeps and the residual on a room that holds the fields u, b and t, one
+// One level of the V-cycle in binary64: sweeps, Jacobi and the residual on a room that holds the fields u, b and t, one
 // element a cell each, and what follows. Openings count as zero.
 ghost use mathlib.Core.Path.{_≡_};
 ghost use mathlib.Core.Bool.{cond};
@@ -9,10 +9,11 @@ ghost use Rattle.laws.specs.Binary64.{_⊕_, _⊖_, +0, ofℕ};
 ghost use Rattle.laws.specs.Lists.{tab};
 ghost use Rattle.method.specs.Cast.{cells, isAir, noWall, degree};
 ghost use Rattle.method.specs.Levels.{value};
-ghost use Rattle.method.specs.Cycle.{airSum, applied, relaxed, jacobi, residue, zeros};
+ghost use Rattle.method.specs.Cycle.{airSum, applied, jacobi, residue, zeros};
 ghost use Rattle.theory.proofs.Sides.{Fit};
 ghost use Rattle.smooth.specs.Fields.{u-of, b-of, t-of, Level, jacobiTurn, residueTurn};
-ghost use Rattle.smooth.specs.Sweeps.{sweptUp, sweptDown, Below};
+
+pub mod entries;
 
 // What the cells across a cell's faces come to: how many are no wall, and the sum over those that are air.
 struct Gathered {
@@ -91,46 +92,6 @@ fn rest_at(u: &[f64], labels: &[u8], g: method::Sides, c: usize, b: f64) -> Rest
     Rest {
         d,
         rest: b - (d * x - a.sum),
-    }
-}
-
-// Gauss-Seidel at one cell: where it is air, u becomes u + (b - A u)/d.
-pub fn relax_at(room: &mut [f64], labels: &[u8], g: method::Sides, c: usize)
-    requires { ⌜ Level g (now labels) (now room) ⌝ }
-    requires { ⌜ c < cells g ⌝ }
-    ensures { λ _. ⌜ now (room .exit) ≡ relaxed g (now (labels .entry)) (isAir (now (labels .entry))) (b-of (cells g) (now (room .entry))) c (u-of (cells g) (now (room .entry))) ++ drop (cells g) (now (room .entry)) ⌝ }
-{
-    let n = labels.len();
-    if labels[c] == 0 {
-        let b = room[n + c];
-        let r = rest_at(&room[..], labels, g, c, b);
-        room[c] = room[c] + r.rest / r.d;
-    }
-}
-
-// Gauss-Seidel at each cell of a list, in the list's order.
-pub fn sweep_up(room: &mut [f64], labels: &[u8], list: &[u32], g: method::Sides)
-    requires { ⌜ Level g (now labels) (now room) ⌝ }
-    requires { ⌜ Below (cells g) (now list) ⌝ }
-    ensures { λ _. ⌜ now (room .exit) ≡ sweptUp g (now (labels .entry)) (now (list .entry)) (b-of (cells g) (now (room .entry))) (u-of (cells g) (now (room .entry))) ++ drop (cells g) (now (room .entry)) ⌝ }
-{
-    let mut k = 0;
-    while k < list.len() {
-        relax_at(room, labels, g, list[k] as usize);
-        k += 1;
-    }
-}
-
-// The same against the list's order.
-pub fn sweep_down(room: &mut [f64], labels: &[u8], list: &[u32], g: method::Sides)
-    requires { ⌜ Level g (now labels) (now room) ⌝ }
-    requires { ⌜ Below (cells g) (now list) ⌝ }
-    ensures { λ _. ⌜ now (room .exit) ≡ sweptDown g (now (labels .entry)) (now (list .entry)) (b-of (cells g) (now (room .entry))) (u-of (cells g) (now (room .entry))) ++ drop (cells g) (now (room .entry)) ⌝ }
-{
-    let mut k = list.len();
-    while 0 < k {
-        k -= 1;
-        relax_at(room, labels, g, list[k] as usize);
     }
 }
 

@@ -24,6 +24,7 @@ pub mod Sizes
 pub mod Places
 pub mod Waves
 pub mod Children
+pub mod Quiet
 pub mod Kept
 pub mod Digits
 pub mod Bytes

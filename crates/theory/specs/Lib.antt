@@ -6,3 +6,4 @@ pub mod Levels
 pub mod Sessions
 pub mod Waves
 pub mod OldSessions
+pub mod Quiet

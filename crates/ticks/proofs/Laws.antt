@@ -1,6 +1,5 @@
 -- Laws of residuals and of what the six cells add. Assumes nothing.
 use mathlib.Core.Path.{_≡_, refl, sym, ap, ap₂, _∙_}
-use mathlib.Core.Logic.{⊎-elim}
 use mathlib.Core.Bool.{Bool, true, false, cond}
 use mathlib.Core.List.{List}
 use Prim.Native.Nat.{ℕ, _+_, _*_, _^_, _≤_, _<_}
@@ -8,24 +7,22 @@ use native.Mathlib.Omega.{arith}
 use native.Mathlib.Numerals.{add-one}
 use borrow.Author.Tests.{lt-ltb, le-ltb, eq-eqb, ne-eqb}
 use lib.IntN.{ℤ, pos, natAbs}
-use lib.ListN.{length, getD, List·getD-eq-default}
+use lib.ListN.{length, getD}
 use mir.Syntax.{w32, w64}
 use mir.Val.{SFits, toZ, ofZ}
 use mir.Facts.{toZ-ofZ}
 use Rattle.laws.specs.Loops.{up}
 use Rattle.laws.specs.Lists.{over}
 use Rattle.laws.specs.Whole.{_+ᶻ_, _-ᶻ_, _*ᶻ_}
-use Rattle.laws.proofs.Naturals.{le-or-lt}
 use Rattle.laws.proofs.Lists.{over-up}
 use Rattle.laws.proofs.Zed.{abs-add, abs-sub}
 use Rattle.method.specs.declared.Sides.{Sides}
 use Rattle.method.specs.Cast.{labelAt, noWall, field, around, degree, sumAround, residual, cells, isAir, judged, worst}
 use Rattle.whole.proofs.Laws.{wholes, abs-product, abs-32}
 use Rattle.ticks.specs.declared.Faces.{Faces}
-use Rattle.ticks.specs.Ready.{Held}
 use Rattle.ticks.specs.Faces.{countStep, sumStep, Visited, Gathered, Residual}
 use Rattle.ticks.specs.Worst.{worstStep}
-use Rattle.grid.proofs.Steps.{steps, label-out, around-six}
+use Rattle.grid.proofs.Steps.{steps, around-six}
 
 -- ---- the residual's two parts, and their difference, fit
 pub residual-fits : (source sum own : ℤ) (d : ℕ) {a b : ℤ} → (natAbs source ≤ 2 ^ 31) × ((natAbs sum ≤ 2 ^ 44) × ((d ≤ 6) × (natAbs own ≤ 2 ^ 41)))
@@ -38,17 +35,8 @@ pub residual-small : (source sum own : ℤ) (d : ℕ) {r : ℤ} → (natAbs sour
 residual-small source sum own d {r} h e =
     omega (arith, ap natAbs e, abs-sub (source +ᶻ sum) (pos d *ᶻ own), abs-add source sum, abs-product d own 6 (h .1 .1 .0))
 
--- pressures that are small inside are small everywhere
-pub small-everywhere : (ps : List ℤ) → ((j : ℕ) → j < length ps → natAbs (field ps j) ≤ 2 ^ 41) → (j : ℕ) → natAbs (field ps j) ≤ 2 ^ 41
-small-everywhere ps h j =
-    ⊎-elim (λ b. rw (List·getD-eq-default ps (pos 0) {n = j} b) (omega arith)) (λ b. h j b) (le-or-lt (length ps) j)
-
 -- ---- one cell, by its label l
 module _ (ls : List ℕ) (j l : ℕ) (e : l ≡ labelAt ls j) where
-  -- a cell that is no wall has a pressure
-  pub reads-in : (ps : List ℤ) → Held ls ps → l < 2 → j < length ps
-  reads-in ps h k = ⊎-elim (λ b. absurd (omega (arith, label-out ls j (omega (arith, h .long))))) (λ b. b) (le-or-lt (length ps) j)
-
   open-cell : l < 2 → noWall ls j ≡ true
   unfolding noWall
   open-cell k = lt-ltb (labelAt ls j) 2 (omega arith)
@@ -73,11 +61,7 @@ module _ (ls : List ℕ) (j l : ℕ) (e : l ≡ labelAt ls j) where
   unfolding sumStep
   sum-wall ps s k = rw (wall-cell k)
 
--- a caller of `add_at` meets the sum behind its bits
-pub gives-step : (ls : List ℕ) (ps : List ℤ) (j : ℕ) (s r : ℤ) → SFits w64 s → r ≡ sumStep ls ps j (toZ w64 (ofZ w64 s)) → r ≡ sumStep ls ps j s
-gives-step ls ps j s r f e = e ∙ ap (sumStep ls ps j) (toZ-ofZ f)
-
--- a cell adds at most one, and a pressure
+-- a cell adds at most one
 visited-few : {ls : List ℕ} {ps : List ℤ} {j : ℕ} {a r : Faces} → Visited ls ps j a r → r .d ≤ a .d + 1
 unfolding countStep
 visited-few {ls} {ps} {j} {a} {r} v = go (noWall ls j) (v .count)
@@ -85,14 +69,6 @@ visited-few {ls} {ps} {j} {a} {r} v = go (noWall ls j) (v .count)
     go : (b : Bool) → r .d ≡ cond b (a .d + 1) (a .d) → r .d ≤ a .d + 1
     go true e = omega arith
     go false e = omega arith
-
-visited-small : {ls : List ℕ} {ps : List ℤ} {j : ℕ} {a r : Faces} → Held ls ps → Visited ls ps j a r → natAbs (r .sum) ≤ natAbs (a .sum) + 2 ^ 41
-unfolding sumStep
-visited-small {ls} {ps} {j} {a} {r} h v = go (noWall ls j) (v .total)
-  where
-    go : (b : Bool) → r .sum ≡ cond b (a .sum +ᶻ field ps j) (a .sum) → natAbs (r .sum) ≤ natAbs (a .sum) + 2 ^ 41
-    go true e = omega (arith, ap natAbs e, abs-add (a .sum) (field ps j), h .small j)
-    go false e = omega (arith, ap natAbs e)
 
 -- ---- the six cells, one after another: after i turns
 abbrev pub countTurn : List ℕ → List ℕ → ℕ → ℕ → ℕ
@@ -120,10 +96,6 @@ gathering-next {ls} {ps} {near} {i} {a} {r} h g v = record {
   count = rw add-one (v .count ∙ ap (countTurn ls near i) (g .count));
   total = rw add-one (v .total ∙ ap (sumTurn ls ps near i) (g .total));
 }
-
-pub gathering-more : {ls : List ℕ} {ps : List ℤ} {near : List ℕ} {i : ℕ} {a r : Faces}
-    → Held ls ps → Gathering ls ps near i a → Visited ls ps (getD near i 0) a r → Gathering ls ps near (i + 1) r
-gathering-more h g v = gathering-next (visited-small h v) g v
 
 pub gathering-end : {g : Sides} {ls : List ℕ} {ps : List ℤ} {near : List ℕ} {c i : ℕ} {a : Faces}
     → near ≡ around g c → Gathering ls ps near i a → i ≤ 6 → 6 ≤ i → Gathered g ls ps c a
@@ -181,4 +153,4 @@ pub worst-is : (g : Sides) (ls : List ℕ) (vs ps : List ℤ) (w : ℕ) → leng
 unfolding worst worstStep
 worst-is g ls vs ps w e h = h ∙ ap (λ n. up (worstStep g ls vs ps) n 0) e
 
-pub ruleset walks = (wholes, steps, reads-in, count-open, count-wall, sum-open, sum-wall, gives-step, gathering-none, gathering-more, gathering-end, gives-residual, worst-more, worst-less, worst-skip)
+pub ruleset walks = (wholes, steps, gathering-none, gathering-end, gives-residual, worst-more, worst-less, worst-skip)

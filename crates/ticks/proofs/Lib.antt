@@ -1,7 +1,5 @@
 -- What the proofs of several functions, and of the crates above, cite.
 pub mod Laws
-pub mod Unique
-pub mod Cases
 pub mod TickNear
 pub mod TickLaws
 pub mod TickWhole

@@ -5,8 +5,8 @@ use mathlib.Core.Bool.{Bool, true, false, cond}
 use native.Mathlib.Nat.{mul-lt-mul-of-pos-right, lt-of-lt-of-le, min-eq-left, add-mul, mul-assoc, mul-right-comm, mul-one, lt-of-mul-lt-mul-right, le-of-mul-le-mul-right, div-add-mod', div-lt-iff-lt-mul, le-div-iff-mul-le}
 use native.Mathlib.Omega.{arith}
 use borrow.Author.Needs.{needs}
-use borrow.Author.Tests.{lt-ltb, le-ltb, ltb-true, ltb-false}
-use lib.Dec.{T, ltb, lit<, lit≤, lt→ltb, le→leb}
+use borrow.Author.Tests.{eq-eqb, ne-eqb, lt-ltb, le-ltb, ltb-true, ltb-false}
+use lib.Dec.{T, eqb, ltb, lit<, lit≤, lt→ltb, le→leb}
 use mir.Syntax.{w64}
 use mir.Val.{Fits}
 use lib.IntN.{ℤ, pos, negsuc}
@@ -67,14 +67,27 @@ nearest-tie : (a b : ℕ) → b ≤ a % b * 2 → a % b * 2 ≤ b → nearest a 
 unfolding nearest
 nearest-tie a b h k = simp (le-ltb (a % b * 2) b h, le-ltb b (a % b * 2) k)
 
--- all that is asked of the rule for halves
+-- ---- the rule for halves: which of the two it takes
+pub tie-even : (q : ℕ) → q % 2 ≡ 0 → q ≡ tie q
+unfolding tie
+tie-even q e = ap (λ b. cond b q (q + 1)) (sym (eq-eqb (q % 2) 0 e))
+
+pub tie-odd : (q : ℕ) → (q % 2 ≡ 0 → ⊥) → q + 1 ≡ tie q
+unfolding tie
+tie-odd q e = ap (λ b. cond b q (q + 1)) (sym (ne-eqb (q % 2) 0 e))
+
+-- all else that is asked of it
+either : (even : Bool) (q : ℕ) → (q ≤ cond even q (q + 1)) × (cond even q (q + 1) ≤ q + 1)
+either true q = (omega arith, omega arith)
+either false q = (omega arith, omega arith)
+
 tie-ge : (q : ℕ) → q ≤ tie q
 unfolding tie
-tie-ge q = omega arith
+tie-ge q = either (eqb (q % 2) 0) q .0
 
 tie-le : (q : ℕ) → tie q ≤ q + 1
 unfolding tie
-tie-le q = omega arith
+tie-le q = either (eqb (q % 2) 0) q .1
 
 module _ (a b : ℕ) where
   -- whatever the two tests say

@@ -1,5 +1,4 @@
 -- The definitions that the crate's contracts cite.
-pub mod Ready
 pub mod Faces
 pub mod Worst
 pub mod TickSize

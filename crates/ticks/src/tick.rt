@@ -1,4 +1,4 @@
-// A binary64 to the nearest whole tick, halves away from zero, and a tick as a binary64.
+// A binary64 to the nearest whole tick, halves to the even tick, and a tick as a binary64.
 ghost use mathlib.Core.Path.{_≡_};
 ghost use mathlib.Core.Bool.{true, false};
 ghost use Prim.Native.Nat.{_^_, _≤_};
@@ -11,12 +11,12 @@ ghost use Rattle.ticks.specs.TickSize.{beyond, size};
 // The furthest tick either way, 2^41.
 const FURTHEST: u64 = 2199023255552;
 
-// What lies half way between low and the next number, away from zero.
+// What lies half way between low and the next number, to the even one of the two.
 fn tie_of(low: u64) -> u64
     requires { ⌜ low ≤ 2 ^ 42 ⌝ }
     ensures { λ r. ⌜ r ≡ tie low ⌝ }
 {
-    low + 1
+    if low % 2 == 0 { low } else { low + 1 }
 }
 
 // The whole number nearest to y, which is above zero and below 2^42: y lies below, above or at its whole part and a half.
@@ -61,7 +61,7 @@ fn kept_of(negative: bool, n: u64) -> method::Tick
     method::Tick::Whole(n as i64)
 }
 
-// The tick of any binary64: the nearest whole number, halves away from zero, within 2^41 either way; a NaN and an infinity have none.
+// The tick of any binary64: the nearest whole number, halves to the even one, within 2^41 either way; a NaN and an infinity have none.
 pub fn to_tick(x: f64) -> method::Tick
     ensures { λ r. ⌜ r ≡ tick x ⌝ }
 {

@@ -11,7 +11,7 @@ use Rattle.method.specs.Cast.{cells, labelAt, isAir}
 use Rattle.method.specs.Levels.{half, halved, coarse, value, inAir, restricted}
 use Rattle.method.specs.Cycle.{corrected}
 use Rattle.method.specs.Computing.{computing}
-use Rattle.method.proofs.Cases.{cube, whole, 512f, 256f, corner, case-h, case-i}
+use Rattle.method.proofs.Cases.{cube, whole, 512f, 256f, 432f, 144f, corner, case-h, case-i}
 use Rattle.transfer.specs.Transfer.{TwoLevels, restrictedRoom, correctedRoom}
 
 -- all labels of the cube are air
@@ -30,7 +30,7 @@ pub restrict-h : (e s : List Float) → take 64 (drop 128 e) ≡ replicate 64 51
 unfolding cells halved half
 restrict-h e s t q = q ∙ ap (λ r. take 200 e ++ r ++ drop 208 e) (ap (restricted cube air) t ∙ case-h)
 
--- case i: where the fine u is 0 and the coarse u is 256 at its first cell and else 0, the first three cells of the fine u become 27, 27, 9
+-- case i: where the fine u is 0 and the coarse u is 256 at its first cell and else 0, the first three cells of the fine u become 432, 432, 144
 added : List Float → List Float
 added l = map (λ x. +0 ⊕ x) l
 
@@ -38,13 +38,13 @@ front : (e : List Float) → map (value (corrected cube air (replicate 64 +0) (2
 unfolding corrected inAir isAir labelAt tab cells added
 front e = refl
 
-to-zero : added (whole 27 ∷ whole 27 ∷ whole 9 ∷ []) ≡ whole 27 ∷ whole 27 ∷ whole 9 ∷ []
+to-zero : added (432f ∷ 432f ∷ 144f ∷ []) ≡ 432f ∷ 432f ∷ 144f ∷ []
 unfolding computing added
 to-zero = refl
 
 pub correct-i : (e s : List Float) → take 64 e ≡ replicate 64 +0 → take 8 (drop 192 e) ≡ 256f ∷ replicate 7 +0
     → s ≡ correctedRoom cube (halved cube) air e
-    → map (value s) (0 ∷ 1 ∷ 2 ∷ []) ≡ whole 27 ∷ whole 27 ∷ whole 9 ∷ []
+    → map (value s) (0 ∷ 1 ∷ 2 ∷ []) ≡ 432f ∷ 432f ∷ 144f ∷ []
 unfolding cells halved half
 correct-i e s u w q =
     ap (λ l. map (value l) (0 ∷ 1 ∷ 2 ∷ [])) (q ∙ ap₂ (λ x y. corrected cube air x y ++ drop 64 e) u w) ∙ front e ∙ ap added case-i ∙ to-zero

@@ -1,19 +1,18 @@
--- What the functions of this crate ask: the table, a term, the turns of a sum, a cell. Assumes nothing.
-use Prim.Native.Nat.{ℕ, _+_, _-_, _*_, _/_, _%_, _<_, _≤_}
+-- What the functions of this crate ask: the weights, a term, the turns of a sum, a cell. Assumes nothing.
+use Prim.Native.Nat.{ℕ, zero, suc, _+_, _-_, _*_, _/_, _%_, _^_, _<_, _≤_}
 use mathlib.Core.Path.{_≡_, refl, sym, ap, ap₂, _∙_}
 use mathlib.Core.Bool.{cond}
 use mathlib.Core.List.{List, zipWith}
-use native.Mathlib.Nat.{mul-one}
+use native.Mathlib.Nat.{mul-one, mul-le-mul}
 use native.Mathlib.Omega.{arith}
 use borrow.Author.Needs.{needs}
 use borrow.Author.Tests.{eq-eqb, ne-eqb}
 use lib.ListN.{length, getD}
 use lib.Ieee.{Float, nan, binary64, ofBits, ofFields}
 use Rattle.laws.specs.Loops.{up}
-use Rattle.laws.specs.Lists.{tab}
 use Rattle.laws.specs.Binary64.{_⊕_, _⊗_, _⊘_, +0, ofℕ}
 use Rattle.laws.proofs.Loops.{Up, up-end, ups}
-use Rattle.laws.proofs.Lists.{getD-tab, length-tab}
+use Rattle.laws.proofs.Lists.{length-tab}
 use Rattle.laws.proofs.Fill.{up-same, over-tab}
 use Rattle.method.specs.declared.Sides.{Sides}
 use Rattle.method.specs.Cast.{cells, along, axes, labelAt, isAir}
@@ -26,14 +25,37 @@ use Rattle.grid.specs.declared.place.Spot.{Spot}
 use Rattle.grid.specs.Place.{SpotOf, placeAt}
 use Rattle.grid.proofs.Choices.{joined-place}
 use Rattle.grid.proofs.Steps.{label-in}
-use Rattle.transfer.specs.Transfer.{Near, TwoLevels, weightAt, term, drawStep, restrictedAt, entryAt, giveStep, correctedAt}
+use Rattle.transfer.specs.Transfer.{Near, TwoLevels, weightOf, term, drawStep, restrictedAt, giveStep, correctedAt}
 
--- ---- the table's rule, from one computed test
-pub entry-is : (l : List ℕ) (k : ℕ) → k < 64 → l ≡ tab 64 weightAt → getD l k 0 ≡ weightAt k
-entry-is l k h e = ap (λ t. getD t k 0) e ∙ getD-tab 64 weightAt k 0 h
+-- ---- the weight along an axis, by its place among the four; whole numbers up to 3 multiply below any bound
+pub axis-middle : (q : ℕ) → (q + 1) / 2 ≡ 1 → 3 ≡ axisWeight q
+unfolding axisWeight
+axis-middle zero h = absurd (omega arith)
+axis-middle (suc zero) h = refl
+axis-middle (suc (suc zero)) h = refl
+axis-middle (suc (suc (suc q))) h = absurd (omega arith)
 
-pub weight-is : (k r : ℕ) → r ≡ weightAt k → ofℕ r ≡ ofℕ (weightAt k)
-weight-is k r e = ap ofℕ e
+pub axis-end : (q : ℕ) → q < 4 → ((q + 1) / 2 ≡ 1 → ⊥) → 1 ≡ axisWeight q
+unfolding axisWeight
+axis-end zero l h = refl
+axis-end (suc zero) l h = absurd (h refl)
+axis-end (suc (suc zero)) l h = absurd (h refl)
+axis-end (suc (suc (suc zero))) l h = refl
+axis-end (suc (suc (suc (suc q)))) l h = absurd (omega arith)
+
+-- products of whole numbers up to 3
+pub few-fit : (a b : ℕ) → a ≤ 3 → b ≤ 3 → a * b < 2 ^ 32
+few-fit a b h i = omega (arith, mul-le-mul h i)
+
+pub few-few : (a b c : ℕ) → a ≤ 3 → b ≤ 3 → c ≤ 3 → a * (b * c) < 2 ^ 32
+few-few a b c h i j = omega (arith, mul-le-mul h (mul-le-mul i j))
+
+pub product-is : (i j k a b c : ℕ) → a ≡ axisWeight i → b ≡ axisWeight j → c ≡ axisWeight k → a * (b * c) ≡ weightOf i j k
+unfolding weightOf
+product-is i j k a b c p q r = cc
+
+pub weight-is : (i j k r : ℕ) → r ≡ weightOf i j k → ofℕ r ≡ ofℕ (weightOf i j k)
+weight-is i j k r e = ap ofℕ e
 
 -- ---- a term, by its cell's label
 module _ (ls : List ℕ) (u : List Float) (j w : ℕ) (a : Float) where
@@ -58,74 +80,55 @@ near-in g c p f s = omega arith
 pub fit-next : (g h : Sides) → Fit g → h ≡ halved g → Fit h
 fit-next g h f e = rw e (halved-fit g f)
 
--- ---- a choice along each axis is a place and an entry of the table
+-- ---- a choice along each axis is a place and a weight
 same-drawn : {i j v w : ℕ} → i ≡ j → v ≡ w → _≡_ {A = Drawn} (record { cell = i; weight = v }) (record { cell = j; weight = w })
 same-drawn p q = λ i. record { cell = p i; weight = q i }
 
 same-place : (g : Sides) {a b e a′ b′ e′ : ℕ} → a ≡ a′ → b ≡ b′ → e ≡ e′ → placeAt g a b e ≡ placeAt g a′ b′ e′
 same-place g p q r = cc
 
-abbrev entry-weight : ℕ → ℕ → ℕ → ℕ
-entry-weight i j k = axisWeight i * (axisWeight j * axisWeight k)
-
-same-weight : {i j k i′ j′ k′ : ℕ} → i ≡ i′ → j ≡ j′ → k ≡ k′ → axisWeight i * (axisWeight j * (axisWeight k * 1)) ≡ entry-weight i′ j′ k′
+same-weight : {i j k i′ j′ k′ : ℕ} → i ≡ i′ → j ≡ j′ → k ≡ k′ → axisWeight i * (axisWeight j * (axisWeight k * 1)) ≡ weightOf i′ j′ k′
+unfolding weightOf
 same-weight {i} {j} {k} {i′} {j′} {k′} p q r = let m : axisWeight k * 1 ≡ axisWeight k = mul-one (axisWeight k) in cc
 
 -- the t-th of the sixty-four
 pub drawn-as : (g : Sides) (c : ℕ) (p : Spot) → SpotOf (halved g) c p → (t : ℕ) → t < 64
     → choice (cells g) 4 (λ h q. placed (cells g) (h .fine) (2 * along (h .coarse) c + q) (axisWeight q)) (halvings g) t
-    ≡ record { cell = placeAt g (2 * p .x + t % 4) (2 * p .y + t / 4 % 4) (2 * p .z + t / 16); weight = weightAt t }
-unfolding choice halvings axes zipWith weightAt
+    ≡ record { cell = placeAt g (2 * p .x + t % 4) (2 * p .y + t / 4 % 4) (2 * p .z + t / 16); weight = weightOf (t % 4) (t / 4 % 4) (t / 16) }
+unfolding choice halvings axes zipWith
 drawn-as g c p s t l =
     joined-place g _ _ _ (axisWeight (t % 4)) (axisWeight (t / 4 % 4)) (axisWeight (t / 4 / 4 % 4))
     ∙ same-drawn (same-place g (omega (arith, s .is-x)) (omega (arith, s .is-y)) (omega (arith, s .is-z))) (same-weight refl refl (omega arith))
 
-four : (x q : ℕ) → 3 - x % 2 - 2 * q < 4
-four x q = omega arith
-
 same-four : {x y q r : ℕ} → x ≡ y → q ≡ r → 3 - x % 2 - 2 * q ≡ 3 - y % 2 - 2 * r
 same-four p q = cc
-
--- the three digits of an entry's number
-digit-x : (i j k : ℕ) → i < 4 → j < 4 → k < 4 → i ≡ (i + 4 * j + 16 * k) % 4
-digit-x i j k p q r = omega arith
-
-digit-y : (i j k : ℕ) → i < 4 → j < 4 → k < 4 → j ≡ (i + 4 * j + 16 * k) / 4 % 4
-digit-y i j k p q r = omega arith
-
-digit-z : (i j k : ℕ) → i < 4 → j < 4 → k < 4 → k ≡ (i + 4 * j + 16 * k) / 16
-digit-z i j k p q r = omega arith
 
 -- the t-th of the eight
 pub given-as : (g : Sides) (c : ℕ) (p : Spot) → SpotOf g c p → (t : ℕ) → t < 8
     → choice (cells (halved g)) 2 (λ h q. placed (cells (halved g)) (h .coarse) ((along (h .fine) c + 1) / 2 + q) (axisWeight (3 - along (h .fine) c % 2 - 2 * q))) (halvings g) t
-    ≡ record { cell = placeAt (halved g) ((p .x + 1) / 2 + t % 2) ((p .y + 1) / 2 + t / 2 % 2) ((p .z + 1) / 2 + t / 4); weight = weightAt (entryAt p t) }
-unfolding choice halvings axes zipWith weightAt entryAt
+    ≡ record {
+      cell = placeAt (halved g) ((p .x + 1) / 2 + t % 2) ((p .y + 1) / 2 + t / 2 % 2) ((p .z + 1) / 2 + t / 4);
+      weight = weightOf (3 - p .x % 2 - 2 * (t % 2)) (3 - p .y % 2 - 2 * (t / 2 % 2)) (3 - p .z % 2 - 2 * (t / 4));
+    }
+unfolding choice halvings axes zipWith
 given-as g c p s t l =
-    let i = 3 - p .x % 2 - 2 * (t % 2) in
-    let j = 3 - p .y % 2 - 2 * (t / 2 % 2) in
-    let k = 3 - p .z % 2 - 2 * (t / 4) in
-    let a = four (p .x) (t % 2) in
-    let b = four (p .y) (t / 2 % 2) in
-    let d = four (p .z) (t / 4) in
-    let x : 3 - along (x-axis g) c % 2 - 2 * (t % 2) ≡ i = same-four (sym (s .is-x)) refl in
-    let y : 3 - along (y-axis g) c % 2 - 2 * (t / 2 % 2) ≡ j = same-four (sym (s .is-y)) refl in
-    let z : 3 - along (z-axis g) c % 2 - 2 * (t / 2 / 2 % 2) ≡ k = same-four (sym (s .is-z)) (omega arith) in
     joined-place (halved g) _ _ _ _ _ _
     ∙ same-drawn (same-place (halved g) (omega (arith, s .is-x)) (omega (arith, s .is-y)) (omega (arith, s .is-z)))
-    (same-weight (x ∙ digit-x i j k a b d) (y ∙ digit-y i j k a b d) (z ∙ digit-z i j k a b d))
+    (same-weight (same-four (sym (s .is-x)) refl) (same-four (sym (s .is-y)) refl) (same-four (sym (s .is-z)) (omega arith)))
 
--- ---- a turn, from the place and the entry
+-- ---- a turn, from the place and the weight
 pub draw-turn : (ls : List ℕ) (u : List Float) (g : Sides) (p : Spot) (t j : ℕ) (a r : Float)
-    → j ≡ placeAt g (2 * p .x + t % 4) (2 * p .y + t / 4 % 4) (2 * p .z + t / 16) → r ≡ term ls u j (weightAt t) a → r ≡ drawStep ls u g p t a
+    → j ≡ placeAt g (2 * p .x + t % 4) (2 * p .y + t / 4 % 4) (2 * p .z + t / 16) → r ≡ term ls u j (weightOf (t % 4) (t / 4 % 4) (t / 16)) a
+    → r ≡ drawStep ls u g p t a
 unfolding drawStep
-draw-turn ls u g p t j a r e q = q ∙ ap (λ x. term ls u x (weightAt t) a) e
+draw-turn ls u g p t j a r e q = q ∙ ap (λ x. term ls u x (weightOf (t % 4) (t / 4 % 4) (t / 16)) a) e
 
-pub give-turn : (lc : List ℕ) (w : List Float) (h : Sides) (p : Spot) (t j k : ℕ) (a r : Float)
-    → j ≡ placeAt h ((p .x + 1) / 2 + t % 2) ((p .y + 1) / 2 + t / 2 % 2) ((p .z + 1) / 2 + t / 4) → k ≡ entryAt p t
-    → r ≡ term lc w j (weightAt k) a → r ≡ giveStep lc w h p t a
+pub give-turn : (lc : List ℕ) (w : List Float) (h : Sides) (p : Spot) (t c i j k : ℕ) (a r : Float)
+    → c ≡ placeAt h ((p .x + 1) / 2 + t % 2) ((p .y + 1) / 2 + t / 2 % 2) ((p .z + 1) / 2 + t / 4)
+    → i ≡ 3 - p .x % 2 - 2 * (t % 2) → j ≡ 3 - p .y % 2 - 2 * (t / 2 % 2) → k ≡ 3 - p .z % 2 - 2 * (t / 4)
+    → r ≡ term lc w c (weightOf i j k) a → r ≡ giveStep lc w h p t a
 unfolding giveStep
-give-turn lc w h p t j k a r e f q = q ∙ ap₂ (λ x y. term lc w x (weightAt y) a) e f
+give-turn lc w h p t c i j k a r e x y z q = cc
 
 pub moved : (g : Sides) {r a b e a′ b′ e′ : ℕ} → r ≡ placeAt g a b e → a ≡ a′ → b ≡ b′ → e ≡ e′ → r ≡ placeAt g a′ b′ e′
 moved g p q r s = cc
@@ -169,11 +172,11 @@ pub over-512 : ofBits binary64 4647714815446351872 ≡ ofℕ restrictionOver
 unfolding computing ofBits ofFields
 over-512 = refl
 
-pub over-256 : ofBits binary64 4643211215818981376 ≡ ofℕ prolongationOver
+pub over-16 : ofBits binary64 4625196817309499392 ≡ ofℕ prolongationOver
 unfolding computing ofBits ofFields
-over-256 = refl
+over-16 = refl
 
-pub ruleset quotients = (ups, fit-next, near-in, drawn-is, given-is, over-512, over-256)
+pub ruleset quotients = (ups, fit-next, near-in, drawn-is, given-is, over-512, over-16)
 
 -- ---- a cell, by its label
 module _ (g h : Sides) (ls lc : List ℕ) (z : TwoLevels g h ls lc) where

@@ -27,9 +27,9 @@ pub record TwoLevels (g h : Sides) (ls lc : List ℕ) : Type 0 where
   pub all : length ls ≡ cells g
   pub labels : lc ≡ coarse g ls
 
--- entry k of the table of weights
-unfoldable pub weightAt : ℕ → ℕ
-weightAt k = axisWeight (k % 4) * (axisWeight (k / 4 % 4) * axisWeight (k / 16))
+-- the weight of the i-th, j-th and k-th of the four along the three axes
+unfoldable pub weightOf : ℕ → ℕ → ℕ → ℕ
+weightOf i j k = axisWeight i * (axisWeight j * axisWeight k)
 
 -- the sum a with the value of cell j under the weight w, where the cell is air
 unfoldable pub term : List ℕ → List Float → ℕ → ℕ → Float → Float
@@ -37,7 +37,7 @@ term ls u j w a = cond (isAir ls j) (a ⊕ ofℕ w ⊗ value u j) a
 
 -- ---- restriction: the t-th of the sixty-four turns at the coarse cell at p
 unfoldable pub drawStep : List ℕ → List Float → Sides → Spot → ℕ → Float → Float
-drawStep ls u g p t a = term ls u (placeAt g (2 * p .x + t % 4) (2 * p .y + t / 4 % 4) (2 * p .z + t / 16)) (weightAt t) a
+drawStep ls u g p t a = term ls u (placeAt g (2 * p .x + t % 4) (2 * p .y + t / 4 % 4) (2 * p .z + t / 16)) (weightOf (t % 4) (t / 4 % 4) (t / 16)) a
 
 unfoldable pub restrictedAt : Sides → List ℕ → List Float → ℕ → Float
 restrictedAt g ls u c = cond (isAir (coarse g ls) c) (weighted ls u (drawnBy g c) ⊘ ofℕ restrictionOver) +0
@@ -51,13 +51,12 @@ abbrev pub restrictedRoom : Sides → Sides → List ℕ → List Float → List
 restrictedRoom g h ls e =
     take (3 * cells g + cells h) e ++ restricted g ls (take (cells g) (drop (2 * cells g) e)) ++ drop (3 * cells g + 2 * cells h) e
 
--- ---- prolongation: the entry for the t-th of the eight coarse cells around the fine cell at p, and its turn
-unfoldable pub entryAt : Spot → ℕ → ℕ
-entryAt p t = (3 - p .x % 2 - 2 * (t % 2)) + 4 * (3 - p .y % 2 - 2 * (t / 2 % 2)) + 16 * (3 - p .z % 2 - 2 * (t / 4))
-
+-- ---- prolongation: the t-th of the eight turns at the fine cell at p
 unfoldable pub giveStep : List ℕ → List Float → Sides → Spot → ℕ → Float → Float
 giveStep lc w h p t a =
-    term lc w (placeAt h ((p .x + 1) / 2 + t % 2) ((p .y + 1) / 2 + t / 2 % 2) ((p .z + 1) / 2 + t / 4)) (weightAt (entryAt p t)) a
+    term lc w (placeAt h ((p .x + 1) / 2 + t % 2) ((p .y + 1) / 2 + t / 2 % 2) ((p .z + 1) / 2 + t / 4))
+    (weightOf (3 - p .x % 2 - 2 * (t % 2)) (3 - p .y % 2 - 2 * (t / 2 % 2)) (3 - p .z % 2 - 2 * (t / 4)))
+    a
 
 unfoldable pub correctedAt : Sides → List ℕ → List Float → ℕ → Float → Float
 correctedAt g ls w c old = cond (isAir ls c) (old ⊕ weighted (coarse g ls) w (givenTo g c) ⊘ ofℕ prolongationOver) +0

@@ -1,4 +1,4 @@
-// Prolongation: each fine air cell has the weighted sum of eight coarse cells over 256, which is added to the fine u.
+// Prolongation: each fine air cell has the weighted sum of eight coarse cells over 16, which is added to the fine u.
 ghost use mathlib.Core.Path.{_≡_};
 ghost use Prim.Native.Nat.{_+_, _-_, _*_, _/_, _%_, _≤_, _<_};
 ghost use lib.ListN.{length};
@@ -7,7 +7,7 @@ ghost use Rattle.method.specs.Cast.{cells};
 ghost use Rattle.method.specs.Levels.{halved, givenTo, weighted, prolongationOver};
 ghost use Rattle.theory.proofs.Sides.{Fit};
 ghost use Rattle.grid.specs.Place.{placeAt};
-ghost use Rattle.transfer.specs.Transfer.{Near, TwoLevels, entryAt, giveStep, correctedAt, correctStep, correctedRoom};
+ghost use Rattle.transfer.specs.Transfer.{Near, TwoLevels, giveStep, correctedAt, correctStep, correctedRoom};
 use grid::place::Spot;
 
 // Along one axis the lower (q = 0) or the upper (q = 1) coarse cell that gives to fine x, counted from one.
@@ -44,17 +44,6 @@ fn drawn_as(x: usize, q: usize) -> usize
     3 - x % 2 - 2 * q
 }
 
-// The entry of the table for the t-th of the eight.
-fn entry(p: Spot, t: usize) -> usize
-    requires { ⌜ t < 8 ⌝ }
-    ensures { λ r. ⌜ (r ≡ entryAt p t) × (r < 64) ⌝ }
-{
-    let i = drawn_as(p.x, t % 2);
-    let j = drawn_as(p.y, t / 2 % 2);
-    let k = drawn_as(p.z, t / 4);
-    i + 4 * j + 16 * k
-}
-
 // The sum a with the t-th term.
 fn give(below: &[u8], w: &[f64], h: method::Sides, p: Spot, t: usize, a: f64) -> f64
     requires { ⌜ Fit h ⌝ }
@@ -63,9 +52,11 @@ fn give(below: &[u8], w: &[f64], h: method::Sides, p: Spot, t: usize, a: f64) ->
     requires { ⌜ t < 8 ⌝ }
     ensures { λ r. ⌜ r ≡ giveStep (now (below .entry)) (now (w .entry)) h p t a ⌝ }
 {
-    let j = source(h, below.len(), p, t);
-    let k = entry(p, t);
-    crate::weights::add_term(below, w, j, k, a)
+    let c = source(h, below.len(), p, t);
+    let i = drawn_as(p.x, t % 2);
+    let j = drawn_as(p.y, t / 2 % 2);
+    let k = drawn_as(p.z, t / 4);
+    crate::weights::add_term(below, w, c, i, j, k, a)
 }
 
 // What the field w gives to fine cell c.
@@ -83,7 +74,7 @@ fn given(below: &[u8], w: &[f64], g: method::Sides, h: method::Sides, c: usize) 
         a = give(below, w, h, p, t, a);
         t += 1;
     }
-    a / 256.0
+    a / 16.0
 }
 
 // The corrected value of fine cell c, whose value is old: 0 where the cell is no air.

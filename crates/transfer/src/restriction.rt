@@ -29,8 +29,8 @@ fn draw(labels: &[u8], u: &[f64], g: method::Sides, p: Spot, t: usize, a: f64) -
     requires { ⌜ t < 64 ⌝ }
     ensures { λ r. ⌜ r ≡ drawStep (now (labels .entry)) (now (u .entry)) g p t a ⌝ }
 {
-    let j = source(g, labels.len(), p, t);
-    crate::weights::add_term(labels, u, j, t, a)
+    let c = source(g, labels.len(), p, t);
+    crate::weights::add_term(labels, u, c, t % 4, t / 4 % 4, t / 16, a)
 }
 
 // What coarse cell c draws from the field u.

@@ -1,49 +1,51 @@
--- `airway::answer` meets its contract. Assumes nothing.
-use Rattle.airway.proofs.Laws.{rooms}
+-- `airway::answer` meets its contract: what `respond` puts, with the program's own limit. Assumes nothing.
+use native.Mathlib.Omega.{arith}
+use borrow.Author.Needs.{needs}
+use Rattle.method.specs.Program.{programRoom}
+use Rattle.airway.proofs.Laws.{part-long, at-limit, program-put}
 use Rattle.airway.proofs.answer.Statement.{statement}
 use Rattle.airway.proofs.answer.Tie as tie
 
+slice-aggregate-respond : tie.Need-slice-aggregate-respond
+slice-aggregate-respond c =
+    let s = c .before .before .before .before .before .before in
+    part-long (s .args .got) (s .args .buffer .now) (s .pre .0 .1)
+
 respond-requires : tie.Need-respond-requires
-respond-requires c κs = search rooms
-
-slice-reshare-prefix-write-all : tie.Need-slice-reshare-prefix-write-all
-slice-reshare-prefix-write-all c = search rooms
-
-slice-aggregate-write-all : tie.Need-slice-aggregate-write-all
-slice-aggregate-write-all c = search rooms
-
-write-all-requires : tie.Need-write-all-requires
-write-all-requires c κs = search rooms
+unfolding programRoom
+respond-requires c κs = at-limit (omega arith) (c .before .before .before .before .before .before .before .before .before .before .before .before .pre .1)
 
 same-length : tie.Need-same-length
-same-length c = search rooms
+same-length c = search needs
 
 same-length-2 : tie.Need-same-length-2
-same-length-2 c = search rooms
+same-length-2 c = search needs
 
 same-length-3 : tie.Need-same-length-3
-same-length-3 c = search rooms
+same-length-3 c = search needs
 
 same-length-4 : tie.Need-same-length-4
-same-length-4 c = search rooms
+same-length-4 c = search needs
 
 same-length-5 : tie.Need-same-length-5
-same-length-5 c = search rooms
+same-length-5 c = search needs
 
 same-length-6 : tie.Need-same-length-6
-same-length-6 c = search rooms
+same-length-6 c = search needs
 
 returns : tie.Need-returns
-returns c = search rooms
+unfolding programRoom
+returns c =
+    let called = c .before .before .before .before .before .before .before .before .before .before in
+    let start = called .before .before .before .before .before .before .before .before .before .before .before .before .before in
+    program-put _ _ (called .respond .ensures) (omega arith) (start .pre .1 .output-long)
 
 pub answer-spec : {M : Type 1} → statement M
 answer-spec =
     tie.close
     (tie.spec
+    slice-aggregate-respond
     respond-requires
-    slice-reshare-prefix-write-all
-    slice-aggregate-write-all
-    write-all-requires
     same-length
     same-length-2
     same-length-3

@@ -2,7 +2,7 @@
 -- Assumes nothing.
 use mathlib.Core.Path.{refl, _∙_}
 use borrow.Author.Needs.{needs}
-use Rattle.cycle.proofs.Levels.{cycles, labels-few, level-asked, air-listed, band-listed, cleared, same-ready, two-levels, lent-ready, home-room, corrected-is, cycle-more}
+use Rattle.cycle.proofs.Levels.{cycles, labels-few, level-asked, air-listed, band-listed, cleared, cleared-end, stroke-end, corrected-end, level-end, same-ready, two-levels, lent-ready, lent-end, home-room, corrected-is, cycle-more}
 use Prim.Native.Nat.{ℕ, _+_, _-_, _<_}
 use borrow.Fn.Kinds.{In}
 use borrow.Fn.PlainCycle.{Measures, is, falls, and}
@@ -148,7 +148,7 @@ coarse-correction-cycle-requires t c κs =
     let h = at-lower .before .before .before .before .sides-at2 in
     let ls = at-lower .before .before .before .level-labels in
     let lc = at-lower .before .before .level-labels2 in
-    (search cycles, lent-ready (start .pre .1 .0) (start .pre .1 .1) (g .ensures) (h .ensures) (ls .ensures) (lc .ensures) (at-lower .lower .last .0) (at-lower .lower .kept .0))
+    (search cycles, (lent-ready (start .pre .1 .0) (start .pre .1 .1 .1) (g .ensures) (h .ensures) (ls .ensures) (lc .ensures) (at-lower .lower .last .0) (at-lower .lower .kept .0), lent-end (start .pre .1 .0) (start .pre .1 .1 .1) (g .ensures) (h .ensures) (ls .ensures) (lc .ensures) _ _ refl (start .pre .1 .1 .0) (at-lower .lower .ensures)))
 
 coarse-correction-correct-requires : (t : ℕ) → coarse-correction-lts.Need-correct-requires (cc-calls t) (coarse-correction-at t) coarse-correction.Post
 coarse-correction-correct-requires t c κs =
@@ -158,7 +158,7 @@ coarse-correction-correct-requires t c κs =
     let h = at-lower .before .before .before .before .sides-at2 in
     let ls = at-lower .before .before .before .level-labels in
     let lc = at-lower .before .before .level-labels2 in
-    (two-levels (start .pre .1 .0) (start .pre .1 .1) (g .ensures) (h .ensures) (ls .ensures) (lc .ensures), home-room (start .pre .1 .0) (start .pre .1 .1) (g .ensures) (h .ensures) (ls .ensures) (lc .ensures) (at-lower .lower .last .0) (c .before .before .before .cycle .last .0) (at-lower .lower .kept .0) (c .before .before .before .cycle .kept .0))
+    (two-levels (start .pre .1 .0) (start .pre .1 .1 .1) (g .ensures) (h .ensures) (ls .ensures) (lc .ensures), home-room (start .pre .1 .0) (start .pre .1 .1 .1) (g .ensures) (h .ensures) (ls .ensures) (lc .ensures) (at-lower .lower .last .0) (c .before .before .before .cycle .last .0) (at-lower .lower .kept .0) (c .before .before .before .cycle .kept .0))
 
 coarse-correction-same-length : (t : ℕ) → coarse-correction-lts.Need-same-length (cc-calls t) (coarse-correction-at t) coarse-correction.Post
 coarse-correction-same-length t c = search cycles
@@ -171,7 +171,7 @@ coarse-correction-returns t c =
     let h = at-lower .before .before .before .before .sides-at2 in
     let ls = at-lower .before .before .before .level-labels in
     let lc = at-lower .before .before .level-labels2 in
-    corrected-is (start .pre .1 .0) (start .pre .1 .1) (g .ensures) (h .ensures) (ls .ensures) (lc .ensures) _ _ _ _ refl (at-lower .lower .ensures) (c .before .before .before .before .before .before .cycle .ensures) (c .before .before .correct .ensures)
+    corrected-is (start .pre .1 .0) (start .pre .1 .1 .1) (g .ensures) (h .ensures) (ls .ensures) (lc .ensures) _ _ _ _ refl (at-lower .lower .ensures) (c .before .before .before .before .before .before .cycle .ensures) (c .before .before .correct .ensures)
 
 cycle-sides-at-requires : (t : ℕ) → cycle-lts.Need-sides-at-requires (cy-calls t) (cycle-at t) cycle.Post
 cycle-sides-at-requires t c κs = search cycles
@@ -196,7 +196,8 @@ cycle-coarsest-requires t c κs =
     let ls = at-clear .before .before .before .level-labels in
     let cs = at-clear .before .before .level-list in
     let cleared-long = at-clear .clear-u .kept .0 in
-    (level-asked (start .pre .1) (g .ensures) (ls .ensures) _ cleared-long, (air-listed (start .pre .1) (g .ensures) (ls .ensures) (cs .ensures) (c .before .if1 .left), cleared (start .pre .1) (g .ensures) _ _ refl (at-clear .clear-u .ensures)))
+    let zero = cleared-end (start .pre .1 .0) (g .ensures) _ _ refl (start .pre .1 .1) (at-clear .clear-u .ensures) in
+    (level-asked (start .pre .1 .0) (g .ensures) (ls .ensures) _ cleared-long, (level-end (start .pre .1 .0) (g .ensures) zero, (air-listed (start .pre .1 .0) (g .ensures) (ls .ensures) (cs .ensures) (c .before .if1 .left), cleared (start .pre .1 .0) (g .ensures) _ _ refl (at-clear .clear-u .ensures))))
 
 cycle-downstroke-requires : (t : ℕ) → cycle-lts.Need-downstroke-requires (cy-calls t) (cycle-at t) cycle.Post
 cycle-downstroke-requires t c κs =
@@ -206,14 +207,18 @@ cycle-downstroke-requires t c κs =
     let ls = at-clear .before .before .before .level-labels in
     let cs = at-clear .before .before .level-list in
     let cleared-long = at-clear .clear-u .kept .0 in
-    (search needs, (level-asked (start .pre .1) (g .ensures) (ls .ensures) _ cleared-long, (band-listed (start .pre .1) (g .ensures) (ls .ensures) (cs .ensures) (c .before .if1 .taken), cleared (start .pre .1) (g .ensures) _ _ refl (at-clear .clear-u .ensures))))
+    let zero = cleared-end (start .pre .1 .0) (g .ensures) _ _ refl (start .pre .1 .1) (at-clear .clear-u .ensures) in
+    (search needs, (level-asked (start .pre .1 .0) (g .ensures) (ls .ensures) _ cleared-long, (level-end (start .pre .1 .0) (g .ensures) zero, (band-listed (start .pre .1 .0) (g .ensures) (ls .ensures) (cs .ensures) (c .before .if1 .taken), cleared (start .pre .1 .0) (g .ensures) _ _ refl (at-clear .clear-u .ensures)))))
 
 cycle-coarse-correction-requires : (t : ℕ) → cycle-lts.Need-coarse-correction-requires (cy-calls t) (cycle-at t) cycle.Post
 cycle-coarse-correction-requires t c κs =
     let at-clear = c .before .before .before .before .before .before .before .before in
     let start = at-clear .before .before .before .before .before .before .before .before in
+    let g = at-clear .before .before .before .before .sides-at in
     let cleared-long = at-clear .clear-u .kept .0 in
-    (search needs, (same-ready (start .pre .1) _ (c .before .before .before .downstroke .kept .0 ∙ cleared-long), c .before .before .before .before .before .if1 .taken))
+    let zero = cleared-end (start .pre .1 .0) (g .ensures) _ _ refl (start .pre .1 .1) (at-clear .clear-u .ensures) in
+    let zero-then = stroke-end (start .pre .1 .0) (g .ensures) _ _ _ zero (c .before .before .before .downstroke .ensures) in
+    (search needs, (same-ready (start .pre .1 .0) _ (c .before .before .before .downstroke .kept .0 ∙ cleared-long), (zero-then, c .before .before .before .before .before .if1 .taken)))
 
 cycle-upstroke-requires : (t : ℕ) → cycle-lts.Need-upstroke-requires (cy-calls t) (cycle-at t) cycle.Post
 cycle-upstroke-requires t c κs =
@@ -223,7 +228,10 @@ cycle-upstroke-requires t c κs =
     let ls = at-clear .before .before .before .level-labels in
     let cs = at-clear .before .before .level-list in
     let cleared-long = at-clear .clear-u .kept .0 in
-    (search needs, (level-asked (start .pre .1) (g .ensures) (ls .ensures) _ (c .before .before .before .coarse-correction .kept .0 ∙ c .before .before .before .before .before .before .before .downstroke .kept .0 ∙ cleared-long), band-listed (start .pre .1) (g .ensures) (ls .ensures) (cs .ensures) (c .before .before .before .before .before .before .before .before .before .if1 .taken)))
+    let zero = cleared-end (start .pre .1 .0) (g .ensures) _ _ refl (start .pre .1 .1) (at-clear .clear-u .ensures) in
+    let zero-then = stroke-end (start .pre .1 .0) (g .ensures) _ _ _ zero (c .before .before .before .before .before .before .before .downstroke .ensures) in
+    let zero-last = corrected-end (start .pre .1 .0) _ _ zero-then (c .before .before .before .coarse-correction .ensures) in
+    (search needs, (level-asked (start .pre .1 .0) (g .ensures) (ls .ensures) _ (c .before .before .before .coarse-correction .kept .0 ∙ c .before .before .before .before .before .before .before .downstroke .kept .0 ∙ cleared-long), (level-end (start .pre .1 .0) (g .ensures) zero-last, band-listed (start .pre .1 .0) (g .ensures) (ls .ensures) (cs .ensures) (c .before .before .before .before .before .before .before .before .before .if1 .taken))))
 
 cycle-same-length : (t : ℕ) → cycle-lts.Need-same-length (cy-calls t) (cycle-at t) cycle.Post
 cycle-same-length t c = search cycles
@@ -235,7 +243,7 @@ cycle-returns t c =
     let g = at-clear .before .before .before .before .sides-at in
     let ls = at-clear .before .before .before .level-labels in
     let cs = at-clear .before .before .level-list in
-    cycle-more (start .pre .1) (g .ensures) (ls .ensures) (cs .ensures) _ _ _ _ _ refl (c .before .before .before .before .before .before .before .before .before .before .before .before .if1 .taken) (at-clear .clear-u .ensures) (c .before .before .before .before .before .before .before .before .before .before .downstroke .ensures) (c .before .before .before .before .before .before .coarse-correction .ensures) (c .before .before .upstroke .ensures)
+    cycle-more (start .pre .1 .0) (g .ensures) (ls .ensures) (cs .ensures) _ _ _ _ _ refl (c .before .before .before .before .before .before .before .before .before .before .before .before .if1 .taken) (at-clear .clear-u .ensures) (c .before .before .before .before .before .before .before .before .before .before .downstroke .ensures) (c .before .before .before .before .before .before .coarse-correction .ensures) (c .before .before .upstroke .ensures)
 
 cycle-same-length-2 : (t : ℕ) → cycle-lts.Need-same-length-2 (cy-calls t) (cycle-at t) cycle.Post
 cycle-same-length-2 t c = search cycles

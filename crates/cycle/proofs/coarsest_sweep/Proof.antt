@@ -10,7 +10,7 @@ same-length : tie.Need-same-length
 same-length c = search sweeping
 
 returns : tie.Need-returns
-returns c = search sweeping
+returns c = (search sweeping, search sweeping)
 
 pub coarsest-sweep-spec : {M : Type 1} → statement M
 coarsest-sweep-spec = tie.close (tie.spec sweep-requires same-length returns)

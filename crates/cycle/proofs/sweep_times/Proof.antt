@@ -2,14 +2,17 @@
 use Prim.Native.Nat.{_≤_, _-_}
 use mathlib.Core.Path.{_≡_}
 use lib.ListN.{length}
+use Rattle.laws.specs.Binary64.{+0}
 use Rattle.laws.proofs.Loops.{Up}
+use Rattle.method.specs.Levels.{value}
+use Rattle.grid.specs.Entries.{cellsOf}
 use Rattle.cycle.proofs.Laws.{sweeping, turn}
 use Rattle.cycle.proofs.sweep_times.Statement.{statement}
 use Rattle.cycle.proofs.sweep_times.Tie as tie
 
 abbrev Inv-loop : tie.InvT-loop
 Inv-loop room₀ labels list g forward count i₀ room i =
-    (i ≤ count) × (length room ≡ length room₀) × Up (turn forward g labels list) room₀ i room
+    (i ≤ count) × (length room ≡ length room₀) × (value room (length room - 1) ≡ +0) × Up (turn forward g labels (cellsOf list)) room₀ i room
 
 abbrev μ-loop : tie.MeasureT-loop
 μ-loop room₀ labels list g forward count i₀ room i = count - i

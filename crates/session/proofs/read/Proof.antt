@@ -1,4 +1,6 @@
--- `session::read` meets its contract. Assumes nothing.
+-- `session::read` meets its contract; that what it reads is bytes is known of a `&[u8]`. Assumes nothing.
+use native.Mathlib.Omega.{arith}
+use Rattle.theory.specs.Sessions.{Bytes}
 use Rattle.session.proofs.ReadLaws.{readers}
 use Rattle.session.proofs.read.Statement.{statement}
 use Rattle.session.proofs.read.Tie as tie
@@ -19,7 +21,10 @@ same-length : tie.Need-same-length
 same-length c = search readers
 
 returns : tie.Need-returns
-returns c = search readers
+returns c =
+    let start = c .before .before .before .before .before .before .before in
+    let known : Bytes (start .before .args .bytes .now) = λ i. omega (arith, start .shared-slice-known .given i) in
+    search readers
 
 pub read-spec : {M : Type 1} → statement M
 read-spec =

@@ -1,4 +1,4 @@
-use Rattle.solve.proofs.Working.{running}
+use Rattle.solve.proofs.Working.{running, labelled-run, ran-solved, ran-failed}
 use borrow.Author.Needs.{needs}
 use Rattle.solve.proofs.run.Statement.{statement}
 use Rattle.solve.proofs.run.Tie as tie
@@ -28,13 +28,13 @@ same-length-2 : tie.Need-same-length-2
 same-length-2 c = search needs
 
 returns : tie.Need-returns
-returns c = search running
+returns c = search (labelled-run, ran-solved)
 
 same-length-3 : tie.Need-same-length-3
 same-length-3 c = search needs
 
 returns-2 : tie.Need-returns-2
-returns-2 c = search running
+returns-2 c = search (ran-failed)
 
 pub run-spec : {M : Type 1} → statement M
 run-spec =

@@ -1,4 +1,4 @@
-use Rattle.solve.proofs.Working.{working, prepare-asked, worked-run}
+use Rattle.solve.proofs.Working.{working, prepare-asked, run-asked, worked-run}
 use borrow.Author.Needs.{needs}
 use Rattle.solve.proofs.work.Statement.{statement}
 use Rattle.solve.proofs.work.Tie as tie
@@ -23,7 +23,12 @@ prepare-requires c κs =
     prepare-asked (start .pre) _ (found .distances .ensures .sealed-is) (told .enum-told .given .1) (found .distances .last .0) (found .distances .kept .0)
 
 run-requires : tie.Need-run-requires
-run-requires c κs = search working
+run-requires c κs =
+    let made = c .before .before .before .before .before .before .before .before in
+    let told = made .before .before .before in
+    let found = told .before .before .before .before in
+    let start = found .before .before .before .before .before .before in
+    run-asked (start .pre) _ _ _ (made .prepare .ensures)
 
 same-length : tie.Need-same-length
 same-length c = search needs

@@ -1,14 +1,15 @@
 -- `sources::whole_at` meets its contract: after i turns the sum is that of the first i cells. Assumes nothing.
 use Prim.Native.Nat.{_≤_, _-_, _^_}
-use mathlib.Core.Path.{_≡_, ap}
+use mathlib.Core.Path.{_≡_, ap, _∙_}
 use native.Mathlib.Omega.{arith}
 use denote.Ref.{now}
 use lib.IntN.{ℤ, natAbs}
 use mir.Syntax.{w32, w64}
-use mir.Val.{SFits, toZ}
+use mir.Val.{SFits, toZ, ofZ}
+use mir.Facts.{toZ-ofZ}
 use Rattle.method.specs.Cast.{field}
-use Rattle.whole.proofs.Laws.{abs-32}
-use Rattle.sources.proofs.Laws.{Gathering, sides}
+use Rattle.whole.proofs.Laws.{abs-32, gives-wide}
+use Rattle.sources.proofs.Laws.{Gathering, sides, gathering-end}
 use Rattle.sources.proofs.whole_at.Statement.{statement}
 use Rattle.sources.proofs.whole_at.Tie as tie
 
@@ -58,7 +59,16 @@ loop-again : tie.Need-loop-again Inv-loop μ-loop
 loop-again c = search sides
 
 returns : tie.Need-returns Inv-loop μ-loop
-returns c = search sides
+returns c =
+    let l = c .before .loop in
+    let w = c .before .before in
+    let n = w .before .before in
+    let s = n .before .before in
+    let v : ℤ = field (now (s .args .values)) (s .args .c) in
+    let f : SFits w32 v = record { sfits = w .before .wide-arg .given } in
+    let k : SFits w64 (w .wide .result) = record { sfits = w .wide .ok } in
+    let e : toZ w64 (ofZ w64 (w .wide .result)) ≡ v = toZ-ofZ k ∙ gives-wide v (w .wide .result) f (w .wide .ensures) in
+    gathering-end (s .args .g) (s .args .c) (l .i) (toZ w64 (ofZ w64 (w .wide .result))) (toZ w64 (l .b)) (n .neighbours .ensures) e (l .inv .1) (l .inv .0) (omega arith)
 
 pub whole-at-spec : {M : Type 1} → statement M
 whole-at-spec =

@@ -1,6 +1,6 @@
 -- `trial::residual_at` meets its contract: by its four numbers. Assumes nothing.
 use mathlib.Core.Path.{_≡_, ap, _∙_}
-use Prim.Native.Nat.{_≤_, _^_}
+use Prim.Native.Nat.{_≤_, _^_, _*_}
 use native.Mathlib.Omega.{arith}
 use borrow.Author.Needs.{needs}
 use denote.Ref.{now}
@@ -10,7 +10,8 @@ use mir.Val.{SFits}
 use mir.Facts.{toZ-ofZ}
 use Rattle.laws.specs.Whole.{_+ᶻ_, _-ᶻ_, _*ᶻ_}
 use Rattle.method.specs.Cast.{field}
-use Rattle.ticks.proofs.Laws.{residual-made, source-is}
+use Rattle.whole.proofs.Laws.{most-fits}
+use Rattle.ticks.proofs.Laws.{residual-made, source-is, gives-residual}
 use Rattle.trial.specs.Cells.{roundedOn}
 use Rattle.trial.proofs.Laws.{gathers, pressure-is}
 use Rattle.trial.proofs.residual_at.Statement.{statement}
@@ -55,7 +56,9 @@ returns c =
     let ps = roundedOn (s .args .g) (now (s .args .labels)) (now (s .args .values)) (now (s .args .x)) in
     let own : o .whole-at .result ≡ field ps (s .args .c) =
     pressure-is (s .args .g) (now (s .args .labels)) (now (s .args .values)) (now (s .args .x)) (s .args .c) 0 (o .whole-at .result) (s .pre .0 .labelled) (s .pre .1 .1) (o .whole-at .ensures) in
-    let e : c .residual-of .result ≡ w .wide .result +ᶻ m .result .sum -ᶻ pos (m .result .d) *ᶻ o .whole-at .result = search gathers in
+    let e : c .residual-of .result ≡ w .wide .result +ᶻ m .result .sum -ᶻ pos (m .result .d) *ᶻ o .whole-at .result =
+    gives-residual (w .wide .result) (m .result .sum) (o .whole-at .result) (c .residual-of .result) (m .result .d) (record { sfits = w .wide .ok })
+    (most-fits (m .result .sum) (6 * 2 ^ 41) (m .ensures .small) (omega arith)) (record { sfits = o .whole-at .ok }) (c .residual-of .ensures) in
     let f : SFits w64 (c .residual-of .result) = record { sfits = c .residual-of .ok } in
     rw (toZ-ofZ f)
     (residual-made (s .args .g) (now (s .args .labels)) (now (s .args .values)) ps (s .args .c) (m .result) (w .wide .result) (c .residual-of .result)

@@ -5,7 +5,7 @@ use Rattle.laws.proofs.Loops.{Up}
 use Rattle.theory.proofs.Firsts.{None, none-more}
 use Rattle.ticks.specs.Worst.{worstStep}
 use Rattle.trial.specs.Cells.{roundedOn, refusedAt}
-use Rattle.trial.proofs.Laws.{turns, verdicts}
+use Rattle.trial.proofs.Laws.{turns, refused-fails, beyond-fails, within-passes}
 use Rattle.trial.proofs.test.Statement.{statement}
 use Rattle.trial.proofs.test.Tie as tie
 
@@ -26,13 +26,13 @@ refused-at-requires : tie.Need-refused-at-requires Inv-loop μ-loop
 refused-at-requires c κs = search turns
 
 returns : tie.Need-returns Inv-loop μ-loop
-returns c = search verdicts
+returns c = search (refused-fails)
 
 worst-at-requires : tie.Need-worst-at-requires Inv-loop μ-loop
 worst-at-requires c κs = search turns
 
 returns-2 : tie.Need-returns-2 Inv-loop μ-loop
-returns-2 c = search verdicts
+returns-2 c = search (beyond-fails)
 
 add-c : tie.Need-add-c Inv-loop μ-loop
 add-c c = search turns
@@ -49,7 +49,7 @@ cast-t12 : tie.Need-cast-t12 Inv-loop μ-loop
 cast-t12 c = search turns
 
 returns-3 : tie.Need-returns-3 Inv-loop μ-loop
-returns-3 c = search verdicts
+returns-3 c = search (within-passes)
 
 pub test-spec : {M : Type 1} → statement M
 test-spec =

@@ -1,6 +1,7 @@
 -- `trial::whole_at` meets its contract: by the label. Assumes nothing.
-use borrow.Author.Needs.{needs}
-use Rattle.trial.proofs.Laws.{pressed, pressure-air}
+use borrow.Author.Needs.{needs, sfits-of}
+use Rattle.whole.proofs.Laws.{gives-wide}
+use Rattle.trial.proofs.Laws.{pressure-air, pressure-opening, pressure-wall}
 use Rattle.trial.proofs.whole_at.Statement.{statement}
 use Rattle.trial.proofs.whole_at.Tie as tie
 
@@ -26,10 +27,10 @@ wide-requires : tie.Need-wide-requires
 wide-requires c κs = search needs
 
 returns-2 : tie.Need-returns-2
-returns-2 c = search pressed
+returns-2 c = search (pressure-opening, gives-wide, sfits-of)
 
 returns-3 : tie.Need-returns-3
-returns-3 c = search pressed
+returns-3 c = search (pressure-wall)
 
 pub whole-at-spec : {M : Type 1} → statement M
 whole-at-spec =

@@ -6,7 +6,7 @@ use lib.IntN.{pos, natAbs}
 use lib.Signed.{_≤ℤ_, _<ℤ_}
 use mir.Facts.{toZ-ofZ}
 use Rattle.laws.specs.Whole.{_-ᶻ_}
-use Rattle.whole.proofs.Laws.{abs-minus, minus-nonneg, lt-true, lt-false, wholes}
+use Rattle.whole.proofs.Laws.{size-fits, abs-minus, minus-nonneg, lt-true, lt-false, gives-diff, wholes}
 use Rattle.whole.proofs.size.Statement.{statement}
 use Rattle.whole.proofs.size.Tie as tie
 
@@ -17,7 +17,7 @@ plain-requires : tie.Need-plain-requires
 plain-requires c κs =
     let a = c .before .before .args .a in
     let l : a <ℤ pos 0 = lt-true a (pos 0) (simp (toZ-ofZ (c .before .before .fits .a)) at (c .before .if1 .taken)) in
-    let r : c .minus .result ≡ pos 0 -ᶻ a = search wholes in
+    let r : c .minus .result ≡ pos 0 -ᶻ a = gives-diff (pos 0) a (c .minus .result) (size-fits (pos 0) (omega arith)) (c .before .before .fits .a) (c .minus .ensures) in
     let h : pos 0 ≤ℤ c .minus .result = rw r (minus-nonneg a l) in
     search wholes
 
@@ -29,7 +29,7 @@ returns : tie.Need-returns
 returns c =
     let a = c .before .before .before .args .a in
     let h : c .plain .result ≡ natAbs (c .before .minus .result) = search wholes in
-    let r : c .before .minus .result ≡ pos 0 -ᶻ a = search wholes in
+    let r : c .before .minus .result ≡ pos 0 -ᶻ a = gives-diff (pos 0) a (c .before .minus .result) (size-fits (pos 0) (omega arith)) (c .before .before .before .fits .a) (c .before .minus .ensures) in
     h ∙ ap natAbs r ∙ abs-minus a
 
 returns-2 : tie.Need-returns-2

@@ -1,5 +1,6 @@
 -- `whole::wide` meets its contract. Assumes nothing.
-use Rattle.whole.proofs.Laws.{wholes}
+use mir.Facts.{toZ-ofZ}
+use Rattle.whole.proofs.Laws.{wholes, wide-fits}
 use Rattle.whole.proofs.wide.Statement.{statement}
 use Rattle.whole.proofs.wide.Tie as tie
 
@@ -7,7 +8,7 @@ cast-result : tie.Need-cast-result
 cast-result c = search wholes
 
 returns : tie.Need-returns
-returns c = search wholes
+returns c = search (toZ-ofZ, wide-fits)
 
 pub wide-spec : {M : Type 1} → statement M
 wide-spec = tie.close (tie.spec cast-result returns)

@@ -1,11 +1,11 @@
+-- `place::place` meets its contract, by its tests. Assumes nothing.
+use native.Mathlib.Omega.{arith}
 use borrow.Author.Needs.{needs}
 use Rattle.laws.proofs.Loops.{branches}
 use Rattle.grid.specs.Place.{placeAt}
+use Rattle.grid.proofs.Laws.{place-inside}
 use Rattle.grid.proofs.place.place.Statement.{statement}
 use Rattle.grid.proofs.place.place.Tie as tie
-use Rattle.grid.proofs.place.place.Reads as reads
-use Rattle.grid.proofs.place.place.Lts as lts
-use Rattle.grid.proofs.place.number_of.Reads as number-of-reads
 
 cast-nx : tie.Need-cast-nx
 cast-nx c = search needs
@@ -44,8 +44,9 @@ number-of-requires : tie.Need-number-of-requires
 number-of-requires c κs = search needs
 
 returns-7 : tie.Need-returns-7
-unfolding placeAt
-returns-7 c = search branches
+returns-7 c =
+    let s = c .before .before .before .before .before .before .before .before .before .before .args in
+    place-inside (s .g) (s .a) (s .b) (s .e) (c .number-of .result) (omega arith, omega arith) (omega arith, omega arith) (omega arith, omega arith) (c .number-of .ensures)
 
 pub place-spec : {M : Type 1} → statement M
 place-spec =

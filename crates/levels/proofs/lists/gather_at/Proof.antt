@@ -9,8 +9,8 @@ level-list-requires c κs = search levelling
 with-list-requires : tie.Need-with-list-requires
 with-list-requires c κs = search levelling
 
-add-t13 : tie.Need-add-t13
-add-t13 c = search levelling
+add-t14 : tie.Need-add-t14
+add-t14 c = search levelling
 
 same-length : tie.Need-same-length
 same-length c = search levelling
@@ -20,4 +20,4 @@ returns c = search levelling
 
 pub gather-at-spec : {M : Type 1} → statement M
 gather-at-spec =
-    tie.close (tie.spec level-list-requires with-list-requires add-t13 same-length returns)
+    tie.close (tie.spec level-list-requires with-list-requires add-t14 same-length returns)

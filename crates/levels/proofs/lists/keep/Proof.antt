@@ -3,8 +3,8 @@ use Rattle.levels.proofs.Chosen.{keeps}
 use Rattle.levels.proofs.lists.keep.Statement.{statement}
 use Rattle.levels.proofs.lists.keep.Tie as tie
 
-cast-words : tie.Need-cast-words
-cast-words c = search keeps
+entry-of-requires : tie.Need-entry-of-requires
+entry-of-requires c κs = search keeps
 
 mul-words : tie.Need-mul-words
 mul-words c = search keeps
@@ -27,4 +27,4 @@ returns-2 c = search keeps
 pub keep-spec : {M : Type 1} → statement M
 keep-spec =
     tie.close
-    (tie.spec cast-words mul-words slice-write-words add-result same-length returns returns-2)
+    (tie.spec entry-of-requires mul-words slice-write-words add-result same-length returns returns-2)

@@ -1,13 +1,14 @@
 -- `levels::lists::keep_line` meets its contract: up to j the cells stand in the room. Assumes nothing.
 use Prim.Native.Nat.{_≤_, _-_}
 use Rattle.theory.specs.Waves.{strung, waveCell}
+use Rattle.grid.specs.Entries.{entryOf}
 use Rattle.levels.specs.Lists.{smoothed, Placed}
 use Rattle.levels.proofs.Chosen.{on-waves}
 use Rattle.levels.proofs.lists.keep_line.Statement.{statement}
 use Rattle.levels.proofs.lists.keep_line.Tie as tie
 
 abbrev Inv-loop : tie.InvT-loop
-Inv-loop words₀ at labels g band w k n next₀ j₀ words next j = (j ≤ n) × Placed words₀ at (strung (waveCell g (smoothed band g labels) w k) j) next words
+Inv-loop words₀ at labels g band w k n next₀ j₀ words next j = (j ≤ n) × Placed (entryOf g labels) words₀ at (strung (waveCell g (smoothed band g labels) w k) j) next words
 
 abbrev μ-loop : tie.MeasureT-loop
 μ-loop words₀ at labels g band w k n next₀ j₀ words next j = n - j

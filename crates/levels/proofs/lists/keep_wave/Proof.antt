@@ -1,13 +1,14 @@
 -- `levels::lists::keep_wave` meets its contract: up to k the lines stand in the room. Assumes nothing.
 use Prim.Native.Nat.{_≤_, _-_}
 use Rattle.theory.specs.Waves.{strung, waveLine}
+use Rattle.grid.specs.Entries.{entryOf}
 use Rattle.levels.specs.Lists.{smoothed, Placed}
 use Rattle.levels.proofs.Chosen.{on-waves}
 use Rattle.levels.proofs.lists.keep_wave.Statement.{statement}
 use Rattle.levels.proofs.lists.keep_wave.Tie as tie
 
 abbrev Inv-loop : tie.InvT-loop
-Inv-loop words₀ at labels g band w n next₀ k₀ words next k = (k ≤ n) × Placed words₀ at (strung (waveLine g (smoothed band g labels) w) k) next words
+Inv-loop words₀ at labels g band w n next₀ k₀ words next k = (k ≤ n) × Placed (entryOf g labels) words₀ at (strung (waveLine g (smoothed band g labels) w) k) next words
 
 abbrev μ-loop : tie.MeasureT-loop
 μ-loop words₀ at labels g band w n next₀ k₀ words next k = n - k

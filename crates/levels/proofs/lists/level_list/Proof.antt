@@ -1,4 +1,4 @@
--- `levels::lists::level_list` meets its contract, by whether the level is the last. Assumes nothing.
+-- `levels::lists::level_list` meets its contract: the last level has no band. Assumes nothing.
 use Rattle.levels.proofs.Gathered.{levelling}
 use Rattle.levels.proofs.lists.level_list.Statement.{statement}
 use Rattle.levels.proofs.lists.level_list.Tie as tie
@@ -18,44 +18,26 @@ cell-count-requires c κs = search levelling
 add-to : tie.Need-add-to
 add-to c = search levelling
 
-add-if1 : tie.Need-add-if1
-add-if1 c = search levelling
+add-band : tie.Need-add-band
+add-band c = search levelling
 
-sub-wave-list : tie.Need-sub-wave-list
-sub-wave-list c = search levelling
+sub-air-list : tie.Need-sub-air-list
+sub-air-list c = search levelling
 
-part-wave-list-start : tie.Need-part-wave-list-start
-part-wave-list-start c = search levelling
+part-air-list-start : tie.Need-part-air-list-start
+part-air-list-start c = search levelling
 
-part-wave-list-end : tie.Need-part-wave-list-end
-part-wave-list-end c = search levelling
+part-air-list-end : tie.Need-part-air-list-end
+part-air-list-end c = search levelling
 
-wave-list-requires : tie.Need-wave-list-requires
-wave-list-requires c κs = search levelling
-
-sub-wave-list-2 : tie.Need-sub-wave-list-2
-sub-wave-list-2 c = search levelling
-
-part-wave-list-start-2 : tie.Need-part-wave-list-start-2
-part-wave-list-start-2 c = search levelling
-
-part-wave-list-end-2 : tie.Need-part-wave-list-end-2
-part-wave-list-end-2 c = search levelling
-
-wave-list-requires-2 : tie.Need-wave-list-requires-2
-wave-list-requires-2 c κs = search levelling
+air-list-requires : tie.Need-air-list-requires
+air-list-requires c κs = (search levelling, search levelling)
 
 same-length : tie.Need-same-length
 same-length c = search levelling
 
 returns : tie.Need-returns
 returns c = search levelling
-
-same-length-2 : tie.Need-same-length-2
-same-length-2 c = search levelling
-
-returns-2 : tie.Need-returns-2
-returns-2 c = search levelling
 
 pub level-list-spec : {M : Type 1} → statement M
 level-list-spec =
@@ -66,16 +48,10 @@ level-list-spec =
     element-copy-out-from
     cell-count-requires
     add-to
-    add-if1
-    sub-wave-list
-    part-wave-list-start
-    part-wave-list-end
-    wave-list-requires
-    sub-wave-list-2
-    part-wave-list-start-2
-    part-wave-list-end-2
-    wave-list-requires-2
+    add-band
+    sub-air-list
+    part-air-list-start
+    part-air-list-end
+    air-list-requires
     same-length
-    returns
-    same-length-2
-    returns-2)
+    returns)

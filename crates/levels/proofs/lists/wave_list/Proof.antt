@@ -1,13 +1,14 @@
 -- `levels::lists::wave_list` meets its contract: up to w the waves stand in the room. Assumes nothing.
 use Prim.Native.Nat.{_≤_, _-_}
 use Rattle.theory.specs.Waves.{strung, waveOf}
+use Rattle.grid.specs.Entries.{entryOf}
 use Rattle.levels.specs.Lists.{smoothed, Placed}
 use Rattle.levels.proofs.Chosen.{on-lists}
 use Rattle.levels.proofs.lists.wave_list.Statement.{statement}
 use Rattle.levels.proofs.lists.wave_list.Tie as tie
 
 abbrev Inv-loop : tie.InvT-loop
-Inv-loop words₀ at labels g band n next₀ w₀ words next w = (w ≤ n) × Placed words₀ at (strung (waveOf g (smoothed band g labels)) w) next words
+Inv-loop words₀ at labels g band n next₀ w₀ words next w = (w ≤ n) × Placed (entryOf g labels) words₀ at (strung (waveOf g (smoothed band g labels)) w) next words
 
 abbrev μ-loop : tie.MeasureT-loop
 μ-loop words₀ at labels g band n next₀ w₀ words next w = n - w

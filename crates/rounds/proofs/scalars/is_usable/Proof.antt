@@ -1,4 +1,4 @@
-use Rattle.rounds.proofs.Steps.{steps}
+use Rattle.rounds.proofs.Steps.{usable-finite, usable-none}
 use borrow.Author.Needs.{needs}
 use Rattle.rounds.proofs.scalars.is_usable.Statement.{statement}
 use Rattle.rounds.proofs.scalars.is_usable.Tie as tie
@@ -8,11 +8,11 @@ is-finite-requires c κs = search needs
 
 returns : tie.Need-returns
 unfolding lib.Ieee.ofBits
-returns c = search steps
+returns c = search (usable-finite)
 
 returns-2 : tie.Need-returns-2
 unfolding lib.Ieee.ofBits
-returns-2 c = search steps
+returns-2 c = search (usable-none)
 
 pub is-usable-spec : {M : Type 1} → statement M
 is-usable-spec = tie.close (tie.spec is-finite-requires returns returns-2)

@@ -1,7 +1,11 @@
+-- `rounds::scalars::precondition` meets its contract: the cycle's promise on the room from z on. Assumes nothing.
 use Rattle.rounds.proofs.Turns.{turns}
 use borrow.Author.Needs.{needs}
 use Rattle.rounds.proofs.scalars.precondition.Statement.{statement}
 use Rattle.rounds.proofs.scalars.precondition.Tie as tie
+
+end-in-zero-requires : tie.Need-end-in-zero-requires
+end-in-zero-requires c κs = search needs
 
 mul-from : tie.Need-mul-from
 mul-from c = search needs
@@ -19,7 +23,7 @@ part-cycle-end : tie.Need-part-cycle-end
 part-cycle-end c = search needs
 
 cycle-requires : tie.Need-cycle-requires
-cycle-requires c κs = search turns
+cycle-requires c κs = (search turns, search turns)
 
 same-length : tie.Need-same-length
 same-length c = search needs
@@ -31,6 +35,7 @@ pub precondition-spec : {M : Type 1} → statement M
 precondition-spec =
     tie.close
     (tie.spec
+    end-in-zero-requires
     mul-from
     mul-cycle
     sub-cycle

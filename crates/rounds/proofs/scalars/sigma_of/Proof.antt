@@ -1,4 +1,4 @@
-use Rattle.rounds.proofs.Turns.{turns}
+use Rattle.rounds.proofs.Turns.{sigma-is}
 use borrow.Author.Needs.{needs}
 use Rattle.rounds.proofs.scalars.sigma_of.Statement.{statement}
 use Rattle.rounds.proofs.scalars.sigma_of.Tie as tie
@@ -16,7 +16,7 @@ same-length : tie.Need-same-length
 same-length c = search needs
 
 returns : tie.Need-returns
-returns c = search turns
+returns c = search (sigma-is)
 
 pub sigma-of-spec : {M : Type 1} → statement M
 sigma-of-spec = tie.close (tie.spec apply-requires mul-inner inner-requires same-length returns)

@@ -1,5 +1,5 @@
 -- `tick::rounded` meets its contract, by where y lies to its whole part and a half. Assumes nothing.
-use Rattle.ticks.proofs.TickNear.{nears}
+use Rattle.ticks.proofs.TickNear.{nears, near-low, near-high, near-tie}
 use Rattle.ticks.proofs.tick.rounded.Statement.{statement}
 use Rattle.ticks.proofs.tick.rounded.Tie as tie
 
@@ -12,21 +12,21 @@ int-to-float-half c = search nears
 
 returns : tie.Need-returns
 unfolding lib.Ieee.ofBits
-returns c = search nears
+returns c = search (near-low)
 
 add-result : tie.Need-add-result
 add-result c = search nears
 
 returns-2 : tie.Need-returns-2
 unfolding lib.Ieee.ofBits
-returns-2 c = search nears
+returns-2 c = search (near-high)
 
 tie-of-requires : tie.Need-tie-of-requires
 tie-of-requires c κs = search nears
 
 returns-3 : tie.Need-returns-3
 unfolding lib.Ieee.ofBits
-returns-3 c = search nears
+returns-3 c = search (near-tie)
 
 pub rounded-spec : {M : Type 1} → statement M
 rounded-spec =

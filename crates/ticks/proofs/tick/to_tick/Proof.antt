@@ -1,6 +1,6 @@
 -- `tick::to_tick` meets its contract, by the sign of x. Assumes nothing.
 use borrow.Author.Needs.{needs}
-use Rattle.ticks.proofs.TickLaws.{ticking}
+use Rattle.ticks.proofs.TickLaws.{ticking, low-tick, high-tick}
 use Rattle.ticks.proofs.tick.to_tick.Statement.{statement}
 use Rattle.ticks.proofs.tick.to_tick.Tie as tie
 
@@ -13,7 +13,7 @@ kept-of-requires c κs = search needs
 
 returns : tie.Need-returns
 unfolding lib.Ieee.ofBits
-returns c = search ticking
+returns c = search (low-tick)
 
 size-of-requires-2 : tie.Need-size-of-requires-2
 unfolding lib.Ieee.ofBits
@@ -24,7 +24,7 @@ kept-of-requires-2 c κs = search needs
 
 returns-2 : tie.Need-returns-2
 unfolding lib.Ieee.ofBits
-returns-2 c = search ticking
+returns-2 c = search (high-tick)
 
 returns-3 : tie.Need-returns-3
 unfolding lib.Ieee.ofBits

@@ -1,6 +1,6 @@
 -- `tick::whole_back` meets its contract. Assumes nothing.
 use borrow.Author.Needs.{needs}
-use Rattle.ticks.proofs.TickWhole.{wholes}
+use Rattle.ticks.proofs.TickWhole.{wholes, held-none}
 use Rattle.ticks.proofs.tick.whole_back.Statement.{statement}
 use Rattle.ticks.proofs.tick.whole_back.Tie as tie
 
@@ -17,7 +17,7 @@ returns : tie.Need-returns
 returns c = search wholes
 
 returns-2 : tie.Need-returns-2
-returns-2 c = search wholes
+returns-2 c = search (held-none)
 
 pub whole-back-spec : {M : Type 1} → statement M
 whole-back-spec = tie.close (tie.spec to-tick-requires enum-known-z enum-told returns returns-2)

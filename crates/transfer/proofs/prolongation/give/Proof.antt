@@ -1,4 +1,4 @@
--- `transfer::prolongation::give` meets its contract, by the place and the entry. Assumes nothing.
+-- `transfer::prolongation::give` meets its contract, by the places and the weight. Assumes nothing.
 use borrow.Author.Needs.{needs}
 use Rattle.transfer.proofs.Laws.{turns}
 use Rattle.transfer.proofs.prolongation.give.Statement.{statement}
@@ -7,8 +7,14 @@ use Rattle.transfer.proofs.prolongation.give.Tie as tie
 source-requires : tie.Need-source-requires
 source-requires c κs = search needs
 
-entry-requires : tie.Need-entry-requires
-entry-requires c κs = search needs
+drawn-as-requires : tie.Need-drawn-as-requires
+drawn-as-requires c κs = search needs
+
+drawn-as-requires-2 : tie.Need-drawn-as-requires-2
+drawn-as-requires-2 c κs = search needs
+
+drawn-as-requires-3 : tie.Need-drawn-as-requires-3
+drawn-as-requires-3 c κs = search needs
 
 add-term-requires : tie.Need-add-term-requires
 add-term-requires c κs = search needs
@@ -17,4 +23,4 @@ returns : tie.Need-returns
 returns c = search turns
 
 pub give-spec : {M : Type 1} → statement M
-give-spec = tie.close (tie.spec source-requires entry-requires add-term-requires returns)
+give-spec = tie.close (tie.spec source-requires drawn-as-requires drawn-as-requires-2 drawn-as-requires-3 add-term-requires returns)

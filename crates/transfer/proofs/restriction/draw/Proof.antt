@@ -1,4 +1,4 @@
--- `transfer::restriction::draw` meets its contract, by the place and the entry. Assumes nothing.
+-- `transfer::restriction::draw` meets its contract, by the place and the weight. Assumes nothing.
 use borrow.Author.Needs.{needs}
 use Rattle.transfer.proofs.Laws.{turns}
 use Rattle.transfer.proofs.restriction.draw.Statement.{statement}

@@ -1,0 +1,2 @@
+-- Laws that the proof of `main` cites.
+pub mod Laws
