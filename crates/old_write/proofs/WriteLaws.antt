@@ -169,11 +169,17 @@ module _ (s : Sides) (u : ℕ) (ls : List ℕ) (vs : List ℤ) (room : ℕ) wher
         pub cast-slices : (r : Ruling) → b ≡ true → r ≡ oldSliceRuling lent → OldRuledOf s u ls vs room r
         cast-slices r e f = record { is = slices-ruled r f (sym p ∙ d) (sym q ∙ e); roomy = room-if (cast-unit e) r f }
 
+pub ready-fit : (s : Sides) (a : Bool) → a ≡ sidesFit s → a ≡ true → Fit s
+ready-fit s a p d = fit s (sym p ∙ d)
+
+pub ready-unit : (u : ℕ) (b : Bool) → b ≡ unitFits u → b ≡ true → 0 < u
+ready-unit u b q e = unit-from u (sym q ∙ e)
+
 pub ruleset lengths = (needs, not-true, not-false, lengths-labels, lengths-values, lengths-room)
 
 pub ruleset slices = (needs, not-true, not-false, slices-2, slices-labels, slices-values, slices-cells)
 
-pub ruleset casts = (needs, not-true, not-false, cast-1, cast-fit, cast-3, cast-unit, cast-slices)
+pub ruleset casts = (needs, not-true, not-false, cast-1, cast-3, cast-slices)
 
 -- ---- what the writer makes of it
 writing-refused : (w : OldWriting) (num place : ℕ) → verdict oldWriterChecks w ≡ refused num place → oldWriting w ≡ record { answer = refusal num place; count = 0; output = w .output }
