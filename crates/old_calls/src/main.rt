@@ -10,6 +10,7 @@ use libc::STDOUT_FILENO;
 use method::Answer;
 use method::Settings;
 use method::Sides;
+use old_read::OldSession;
 use old_read::old_labels;
 use old_read::read_old;
 use old_write::write_old;
@@ -47,7 +48,11 @@ fn answer_lines(a: Answer) {
 
 // The number at a place of the frame, 0 far beyond its end.
 fn word_at(raw: &[u8], i: usize) -> u32 {
-    if i < 100000 { four_at(raw, i) as u32 } else { 0 }
+    if i < 100000 {
+        four_at(raw, i) as u32
+    } else {
+        0
+    }
 }
 
 fn value_at(raw: &[u8], at: usize, i: usize) -> i32 {
@@ -60,18 +65,24 @@ fn value_at(raw: &[u8], at: usize, i: usize) -> i32 {
     signed(word_at(raw, at + 4 * i))
 }
 
+fn store_at(values: &mut [i32], i: usize, v: i32) {
+    if i < values.len() {
+        values[i] = v;
+    }
+}
+
 // The values of the frame from a place on.
 fn take_values(raw: &[u8], at: usize, values: &mut [i32]) {
+    let n = values.len();
     let mut i = 0;
-    while i < values.len() {
-        values[i] = value_at(raw, at, i);
+    while i < n {
+        store_at(values, i, value_at(raw, at, i));
         i += 1;
     }
 }
 
-// The reader with the lent values as they are, and all it hands back.
-fn read_call(settings: Settings, session: &[u8], values: &mut [i32]) {
-    let r = read_old(settings, session, values);
+// All that the reader hands back, and what the lent values hold.
+fn read_lines(r: OldSession, labels: &[u8], values: &[i32]) {
     let a = r.answer;
     answer_lines(a);
     let g = r.sides;
@@ -80,9 +91,15 @@ fn read_call(settings: Settings, session: &[u8], values: &mut [i32]) {
     line(b"nz=", g.nz as u64);
     line(b"unit=", r.unit as u64);
     line(b"start=", r.start as u64);
-    let labels = old_labels(settings, session, values.len());
     hex_line(b"labels=", labels);
     value_line(b"values=", values);
+}
+
+// The reader, with the lent values as they are.
+fn read_call(settings: Settings, session: &[u8], values: &mut [i32]) {
+    let r = read_old(settings, session, values);
+    let labels = old_labels(settings, session, values.len());
+    read_lines(r, labels, values);
 }
 
 fn reader(raw: &[u8]) {

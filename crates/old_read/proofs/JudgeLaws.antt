@@ -191,8 +191,7 @@ module _ (t : Settings) (bytes : List ℕ) (room : ℕ) (h : OldHeader) (z : Old
       four =
           let a = both-allowed (rulingBy 1 (fault (not (sidesFit (h .sides))))) _ (sym e ∙ d) in
           let b = both-allowed (rulingBy 11 (fault (not (eqb (length bytes - h .start) (3 * cells (h .sides)))))) _ (a .1) in
-          let c = both-allowed (rulingBy 2 (fault (ltb room (cells (h .sides))))) _ (b .1) in
-          (
+          let c = both-allowed (rulingBy 2 (fault (ltb room (cells (h .sides))))) _ (b .1) in (
             no-fault (sidesFit (h .sides)) (ruled-none 1 _ (a .0)),
             (
               no-fault (eqb (length bytes - h .start) (3 * cells (h .sides))) (ruled-none 11 _ (b .0)),

@@ -88,8 +88,7 @@ module _ (t : Settings) (bytes : List ℕ) (b : Bytes bytes) (lent after : List 
       let offered : oldOffered (r .sides) (r .unit) x (take (cells (r .sides)) after) out ≡ oldAgain asked out =
       ap₂ (λ a c. oldOffered a c x (take (cells (r .sides)) after) out) sides-are unit-is
       ∙ ap₂ (λ a c. oldOffered (oldNamed asked .sides) (oldNamed asked .unit) a c out) (labels-are x e) values-are in
-      let back : WrittenBack bytes out (oldWriting (oldAgain asked out)) = old-read-rewritten asked out b was-read l in
-      (
+      let back : WrittenBack bytes out (oldWriting (oldAgain asked out)) = old-read-rewritten asked out b was-read l in (
         (q .answer ∙ ap (λ v. oldWriting v .answer) offered ∙ back .answer, q .count ∙ ap (λ v. oldWriting v .count) offered ∙ back .count),
         q .output ∙ ap (λ v. oldWriting v .output) offered ∙ back .output,
       )

@@ -326,8 +326,7 @@ old-read-accepted r lent b v l =
     let sized : oldLengthsFit (oldAgain r lent) ≡ true =
     ap₂ _&&_ (eq-eqb (length (oldLabelsIn h)) n (length-labels h (z .long)))
     (ap₂ _&&_ (eq-eqb (length (oldValuesIn h)) n (length-values h)) (le-leb (length (oldBytesOf (oldAgain r lent))) (length lent) m)) in
-    pass-all oldWriterChecks (oldAgain r lent)
-    (
+    pass-all oldWriterChecks (oldAgain r lent) (
       no-fault-in (sidesFit (h .sides)) (z .sides),
       (no-fault-in (unitFits (h .unit)) (z .unit), (no-fault-in (oldLengthsFit (oldAgain r lent)) sized, (z .label-fault, (z .value-fault, (all-expressible h (z .long) u bytes, tt))))),
     )

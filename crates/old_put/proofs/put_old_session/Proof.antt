@@ -2,14 +2,19 @@
 use Rattle.old_put.proofs.PartLaws.{wholes}
 use Rattle.old_put.proofs.put_old_session.Statement.{statement}
 use Rattle.old_put.proofs.put_old_session.Tie as tie
+
 put-lines-requires : tie.Need-put-lines-requires
 put-lines-requires c κs = search wholes
+
 put-values-requires : tie.Need-put-values-requires
 put-values-requires c κs = search wholes
+
 put-bytes-requires : tie.Need-put-bytes-requires
 put-bytes-requires c κs = search wholes
+
 same-length : tie.Need-same-length
 same-length c = search wholes
+
 returns : tie.Need-returns
 returns c = search wholes
 

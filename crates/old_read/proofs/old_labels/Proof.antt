@@ -2,18 +2,25 @@
 use Rattle.old_read.proofs.ReadLaws.{readers}
 use Rattle.old_read.proofs.old_labels.Statement.{statement}
 use Rattle.old_read.proofs.old_labels.Tie as tie
+
 judge-old-requires : tie.Need-judge-old-requires
 judge-old-requires c κs = search readers
+
 taken-of-requires : tie.Need-taken-of-requires
 taken-of-requires c κs = search readers
+
 add-result : tie.Need-add-result
 add-result c = search readers
+
 sub-result : tie.Need-sub-result
 sub-result c = search readers
+
 part-result-start : tie.Need-part-result-start
 part-result-start c = search readers
+
 part-result-end : tie.Need-part-result-end
 part-result-end c = search readers
+
 returns : tie.Need-returns
 returns c = search readers
 

@@ -2,16 +2,22 @@
 use Rattle.old_read.proofs.ReadLaws.{readers}
 use Rattle.old_read.proofs.read_old.Statement.{statement}
 use Rattle.old_read.proofs.read_old.Tie as tie
+
 judge-old-requires : tie.Need-judge-old-requires
 judge-old-requires c κs = search readers
+
 taken-of-requires : tie.Need-taken-of-requires
 taken-of-requires c κs = search readers
+
 rest-requires : tie.Need-rest-requires
 rest-requires c κs = search readers
+
 store-values-requires : tie.Need-store-values-requires
 store-values-requires c κs = search readers
+
 same-length : tie.Need-same-length
 same-length c = search readers
+
 returns : tie.Need-returns
 returns c = search readers
 

@@ -2,22 +2,31 @@
 use Rattle.old_write.proofs.WriteLaws.{writers}
 use Rattle.old_write.proofs.write_old.Statement.{statement}
 use Rattle.old_write.proofs.write_old.Tie as tie
+
 judge-old-cast-requires : tie.Need-judge-old-cast-requires
 judge-old-cast-requires c κs = search writers
+
 enum-known-number : tie.Need-enum-known-number
 enum-known-number c = search writers
+
 refusal-requires : tie.Need-refusal-requires
 refusal-requires c κs = search writers
+
 enum-told : tie.Need-enum-told
 enum-told c = search writers
+
 put-old-session-requires : tie.Need-put-old-session-requires
 put-old-session-requires c κs = search writers
+
 refusal-requires-2 : tie.Need-refusal-requires-2
 refusal-requires-2 c κs = search writers
+
 returns : tie.Need-returns
 returns c = search writers
+
 same-length : tie.Need-same-length
 same-length c = search writers
+
 returns-2 : tie.Need-returns-2
 returns-2 c = search writers
 

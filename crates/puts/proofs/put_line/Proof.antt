@@ -2,12 +2,16 @@
 use Rattle.puts.proofs.PutLaws.{lines}
 use Rattle.puts.proofs.put_line.Statement.{statement}
 use Rattle.puts.proofs.put_line.Tie as tie
+
 slice-aggregate-put-number : tie.Need-slice-aggregate-put-number
 slice-aggregate-put-number c = search lines
+
 put-number-requires : tie.Need-put-number-requires
 put-number-requires c κs = search lines
+
 same-length : tie.Need-same-length
 same-length c = search lines
+
 returns : tie.Need-returns
 returns c = search lines
 

@@ -2,14 +2,19 @@
 use Rattle.puts.proofs.PutLaws.{parts}
 use Rattle.puts.proofs.put_number.Statement.{statement}
 use Rattle.puts.proofs.put_number.Tie as tie
+
 put-bytes-requires : tie.Need-put-bytes-requires
 put-bytes-requires c κs = search parts
+
 put-decimal-requires : tie.Need-put-decimal-requires
 put-decimal-requires c κs = search parts
+
 put-bytes-requires-2 : tie.Need-put-bytes-requires-2
 put-bytes-requires-2 c κs = search parts
+
 same-length : tie.Need-same-length
 same-length c = search parts
+
 returns : tie.Need-returns
 returns c = search parts
 

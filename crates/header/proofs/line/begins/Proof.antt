@@ -2,10 +2,13 @@
 use Rattle.header.proofs.LineLaws.{lines}
 use Rattle.header.proofs.line.begins.Statement.{statement}
 use Rattle.header.proofs.line.begins.Tie as tie
+
 returns : tie.Need-returns
 returns c = search lines
+
 shared-slice-read-result : tie.Need-shared-slice-read-result
 shared-slice-read-result c = search lines
+
 returns-2 : tie.Need-returns-2
 returns-2 c = search lines
 

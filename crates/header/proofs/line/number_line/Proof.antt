@@ -2,8 +2,10 @@
 use Rattle.header.proofs.LineLaws.{lines}
 use Rattle.header.proofs.line.number_line.Statement.{statement}
 use Rattle.header.proofs.line.number_line.Tie as tie
+
 number-to-requires : tie.Need-number-to-requires
 number-to-requires c κs = search lines
+
 returns : tie.Need-returns
 returns c = search lines
 

@@ -2,16 +2,22 @@
 use Rattle.old_put.proofs.UnitLaws.{values}
 use Rattle.old_put.proofs.values.put_value.Statement.{statement}
 use Rattle.old_put.proofs.values.put_value.Tie as tie
+
 stored-word-requires : tie.Need-stored-word-requires
 stored-word-requires c κs = search values
+
 byte-of-requires : tie.Need-byte-of-requires
 byte-of-requires c κs = search values
+
 byte-of-requires-2 : tie.Need-byte-of-requires-2
 byte-of-requires-2 c κs = search values
+
 put-two-requires : tie.Need-put-two-requires
 put-two-requires c κs = search values
+
 same-length : tie.Need-same-length
 same-length c = search values
+
 returns : tie.Need-returns
 returns c = search values
 

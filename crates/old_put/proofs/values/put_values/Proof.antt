@@ -11,22 +11,31 @@ Inv-loop output₀ at unit values next₀ i₀ output next i = (i ≤ length val
 
 abbrev μ-loop : tie.MeasureT-loop
 μ-loop output₀ at unit values next₀ i₀ output next i = length values - i
+
 loop-holds : tie.Need-loop-holds Inv-loop μ-loop
 loop-holds c = search valuing
+
 mul-v : tie.Need-mul-v Inv-loop μ-loop
 mul-v c = search valuing
+
 shared-slice-copy-out-v : tie.Need-shared-slice-copy-out-v Inv-loop μ-loop
 shared-slice-copy-out-v c = search valuing
+
 put-value-requires : tie.Need-put-value-requires Inv-loop μ-loop
 put-value-requires c κs = search valuing
+
 add-i : tie.Need-add-i Inv-loop μ-loop
 add-i c = search valuing
+
 loop-less : tie.Need-loop-less Inv-loop μ-loop
 loop-less c = search valuing
+
 loop-again : tie.Need-loop-again Inv-loop μ-loop
 loop-again c = search valuing
+
 same-length : tie.Need-same-length Inv-loop μ-loop
 same-length c = search valuing
+
 returns : tie.Need-returns Inv-loop μ-loop
 returns c = search valuing
 

@@ -2,20 +2,28 @@
 use Rattle.old_read.proofs.JudgeLaws.{bodies}
 use Rattle.old_read.proofs.judge.judge_cells.Statement.{statement}
 use Rattle.old_read.proofs.judge.judge_cells.Tie as tie
+
 mul-rest : tie.Need-mul-rest
 mul-rest c = search bodies
+
 rest-requires : tie.Need-rest-requires
 rest-requires c κs = search bodies
+
 bad-label-requires : tie.Need-bad-label-requires
 bad-label-requires c κs = search bodies
+
 ruled-requires : tie.Need-ruled-requires
 ruled-requires c κs = search bodies
+
 bad-value-requires : tie.Need-bad-value-requires
 bad-value-requires c κs = search bodies
+
 ruled-requires-2 : tie.Need-ruled-requires-2
 ruled-requires-2 c κs = search bodies
+
 earlier-requires : tie.Need-earlier-requires
 earlier-requires c κs = search bodies
+
 returns : tie.Need-returns
 returns c = search bodies
 

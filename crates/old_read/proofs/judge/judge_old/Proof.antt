@@ -2,16 +2,22 @@
 use Rattle.old_read.proofs.JudgeLaws.{judging}
 use Rattle.old_read.proofs.judge.judge_old.Statement.{statement}
 use Rattle.old_read.proofs.judge.judge_old.Tie as tie
+
 read-old-header-requires : tie.Need-read-old-header-requires
 read-old-header-requires c κs = search judging
+
 enum-known-line : tie.Need-enum-known-line
 enum-known-line c = search judging
+
 enum-known-h : tie.Need-enum-known-h
 enum-known-h c = search judging
+
 judge-named-requires : tie.Need-judge-named-requires
 judge-named-requires c κs = search judging
+
 returns : tie.Need-returns
 returns c = search judging
+
 returns-2 : tie.Need-returns-2
 returns-2 c = search judging
 

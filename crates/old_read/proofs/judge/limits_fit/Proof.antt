@@ -2,12 +2,16 @@
 use Rattle.old_read.proofs.JudgeLaws.{limits}
 use Rattle.old_read.proofs.judge.limits_fit.Statement.{statement}
 use Rattle.old_read.proofs.judge.limits_fit.Tie as tie
+
 unit-fits-requires : tie.Need-unit-fits-requires
 unit-fits-requires c κs = search limits
+
 settings-fit-requires : tie.Need-settings-fit-requires
 settings-fit-requires c κs = search limits
+
 returns : tie.Need-returns
 returns c = search limits
+
 returns-2 : tie.Need-returns-2
 returns-2 c = search limits
 

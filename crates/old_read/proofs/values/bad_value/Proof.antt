@@ -11,20 +11,28 @@ Inv-loop body labels n unit c₀ c = (c ≤ n) × None (badOldValue body labels 
 
 abbrev μ-loop : tie.MeasureT-loop
 μ-loop body labels n unit c₀ c = n - c
+
 loop-holds : tie.Need-loop-holds Inv-loop μ-loop
 loop-holds c = search searching
+
 bad-value-at-requires : tie.Need-bad-value-at-requires Inv-loop μ-loop
 bad-value-at-requires c κs = search searching
+
 cast-t8 : tie.Need-cast-t8 Inv-loop μ-loop
 cast-t8 c = search searching
+
 returns : tie.Need-returns Inv-loop μ-loop
 returns c = search searching
+
 add-c : tie.Need-add-c Inv-loop μ-loop
 add-c c = search searching
+
 loop-less : tie.Need-loop-less Inv-loop μ-loop
 loop-less c = search searching
+
 loop-again : tie.Need-loop-again Inv-loop μ-loop
 loop-again c = search searching
+
 returns-2 : tie.Need-returns-2 Inv-loop μ-loop
 returns-2 c = search searching
 

@@ -2,8 +2,10 @@
 use Rattle.old_read.proofs.ValueLaws.{values}
 use Rattle.old_read.proofs.values.short.Statement.{statement}
 use Rattle.old_read.proofs.values.short.Tie as tie
+
 word-requires : tie.Need-word-requires
 word-requires c κs = search values
+
 returns : tie.Need-returns
 returns c = search values
 

@@ -13,22 +13,31 @@ Inv-loop body n unit values₀ c₀ values c = (c ≤ n) × (length values ≡ l
 
 abbrev μ-loop : tie.MeasureT-loop
 μ-loop body n unit values₀ c₀ values c = n - c
+
 loop-holds : tie.Need-loop-holds Inv-loop μ-loop
 loop-holds c = search storing
+
 value-at-requires : tie.Need-value-at-requires Inv-loop μ-loop
 value-at-requires c κs = search storing
+
 mul-v : tie.Need-mul-v Inv-loop μ-loop
 mul-v c = search storing
+
 slice-set-from-v : tie.Need-slice-set-from-v Inv-loop μ-loop
 slice-set-from-v c = search storing
+
 add-c : tie.Need-add-c Inv-loop μ-loop
 add-c c = search storing
+
 loop-less : tie.Need-loop-less Inv-loop μ-loop
 loop-less c = search storing
+
 loop-again : tie.Need-loop-again Inv-loop μ-loop
 loop-again c = search storing
+
 same-length : tie.Need-same-length Inv-loop μ-loop
 same-length c = search storing
+
 returns : tie.Need-returns Inv-loop μ-loop
 returns c = search storing
 

@@ -2,20 +2,28 @@
 use Rattle.old_write.proofs.WriteLaws.{slices}
 use Rattle.old_write.proofs.judge.judge_slices.Statement.{statement}
 use Rattle.old_write.proofs.judge.judge_slices.Tie as tie
+
 lengths-fit-requires : tie.Need-lengths-fit-requires
 lengths-fit-requires c κs = search slices
+
 returns : tie.Need-returns
 returns c = search slices
+
 cell-count-requires : tie.Need-cell-count-requires
 cell-count-requires c κs = search slices
+
 judge-cells-requires : tie.Need-judge-cells-requires
 judge-cells-requires c κs = search slices
+
 first-inexpressible-requires : tie.Need-first-inexpressible-requires
 first-inexpressible-requires c κs = search slices
+
 ruled-requires : tie.Need-ruled-requires
 ruled-requires c κs = search slices
+
 earlier-requires : tie.Need-earlier-requires
 earlier-requires c κs = search slices
+
 returns-2 : tie.Need-returns-2
 returns-2 c = search slices
 

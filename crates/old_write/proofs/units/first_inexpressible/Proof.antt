@@ -11,24 +11,34 @@ Inv-loop values n unit c₀ c = (c ≤ n) × None (inexpressible unit values) c
 
 abbrev μ-loop : tie.MeasureT-loop
 μ-loop values n unit c₀ c = n - c
+
 loop-holds : tie.Need-loop-holds Inv-loop μ-loop
 loop-holds c = search searching
+
 mul-v : tie.Need-mul-v Inv-loop μ-loop
 mul-v c = search searching
+
 shared-slice-copy-out-v : tie.Need-shared-slice-copy-out-v Inv-loop μ-loop
 shared-slice-copy-out-v c = search searching
+
 expressible-requires : tie.Need-expressible-requires Inv-loop μ-loop
 expressible-requires c κs = search searching
+
 cast-t11 : tie.Need-cast-t11 Inv-loop μ-loop
 cast-t11 c = search searching
+
 returns : tie.Need-returns Inv-loop μ-loop
 returns c = search searching
+
 add-c : tie.Need-add-c Inv-loop μ-loop
 add-c c = search searching
+
 loop-less : tie.Need-loop-less Inv-loop μ-loop
 loop-less c = search searching
+
 loop-again : tie.Need-loop-again Inv-loop μ-loop
 loop-again c = search searching
+
 returns-2 : tie.Need-returns-2 Inv-loop μ-loop
 returns-2 c = search searching
 
