@@ -23,20 +23,20 @@ use Rattle.header.specs.declared.HeaderRead.{HeaderRead}
 use Rattle.header.specs.declared.HeaderRead.the-variants.{Wrong, Named}
 
 -- ---- one line more
-read-bad : (line : List ℕ → Line) (ls : List (List ℕ → Line)) (k : ℕ) (l : List ℕ) → line l ≡ bad → readLines k (line ∷ ls) l ≡ wrong k
+pub read-bad : (line : List ℕ → Line) (ls : List (List ℕ → Line)) (k : ℕ) (l : List ℕ) → line l ≡ bad → readLines k (line ∷ ls) l ≡ wrong k
 unfolding readLines
 read-bad line ls k l e = rw (readLines, e)
 
-read-good : (line : List ℕ → Line) (ls : List (List ℕ → Line)) (k : ℕ) (l : List ℕ) (v : ℕ) (m : List ℕ) → line l ≡ good v m
+pub read-good : (line : List ℕ → Line) (ls : List (List ℕ → Line)) (k : ℕ) (l : List ℕ) (v : ℕ) (m : List ℕ) → line l ≡ good v m
     → readLines k (line ∷ ls) l ≡ more v (readLines (suc k) ls m)
 unfolding readLines
 read-good line ls k l v m e = rw (readLines, e)
 
-line-good : (reads : List ℕ → Line) (l m : List ℕ) (r : LineRead) (v n : ℕ) → LineOf reads l r → r ≡ Value v n → m ≡ drop n l → reads l ≡ good v m
+pub line-good : (reads : List ℕ → Line) (l m : List ℕ) (r : LineRead) (v n : ℕ) → LineOf reads l r → r ≡ Value v n → m ≡ drop n l → reads l ≡ good v m
 unfolding lineOf
 line-good reads l m r v n h e f = h .is ∙ rw (e, f)
 
-line-bad : (reads : List ℕ → Line) (l : List ℕ) (r : LineRead) → LineOf reads l r → r ≡ NotOfForm → reads l ≡ bad
+pub line-bad : (reads : List ℕ → Line) (l : List ℕ) (r : LineRead) → LineOf reads l r → r ≡ NotOfForm → reads l ≡ bad
 unfolding lineOf
 line-bad reads l r h e = h .is ∙ rw e
 

@@ -17,7 +17,10 @@ use lib.Seq.{drop-cons, drop-drop, take-all}
 use Rattle.laws.specs.Text.{text}
 use Rattle.method.specs.Cast.{between}
 use Rattle.method.specs.Form.{after, digits, isDigit, isNumber, valueOf, closed, numberLine, orderLine}
+use Rattle.method.specs.OldForm.{numberTo}
+use Rattle.theory.proofs.Lines.{line-to}
 use Rattle.header.specs.Lines.{Starts, leftIf, LineOf, lineOf, taken}
+use Rattle.header.specs.declared.LineRead.{LineRead}
 use Rattle.header.specs.declared.LineRead.the-variants.{NotOfForm, Value}
 
 -- ---- the key: its first i bytes stand there
@@ -238,40 +241,59 @@ unfolding isNumber between
 number-short l n r d e q =
     rw d (leb-true (length (digits l)) 7 (and-true (leb 1 (length (digits l))) (leb (length (digits l)) 7) (and-true (between 1 7 (length (digits l))) _ (sym e ∙ q) .0) .1))
 
-module _ (key l : List ℕ) where
-  pub line-no-key : (r : Bool) → Starts key l r → r ≡ false → LineOf (numberLine key) l NotOfForm
-  unfolding numberLine lineOf taken leftIf
-  line-no-key r s e = record { is = rw (numberLine, s .is, e); within = omega arith }
+-- one byte in front
+pub begins-none : (b : ℕ) (l : List ℕ) → length l ≡ 0 → Starts (b ∷ []) l false
+unfolding after leftIf
+begins-none b [] e = record { is = refl }
+begins-none b (x ∷ l) e = absurd (omega arith)
 
-  module _ (word end : List ℕ) (n : ℕ) (r q p : Bool) (f : Starts (text "\n") end q) (s : Starts key l r) (e : r ≡ true) (x : end ≡ drop n word)
+pub begins-with : (b : ℕ) (l : List ℕ) → (length l ≡ 0 → ⊥) → Starts (b ∷ []) l (eqb (getD l 0 0) b)
+unfolding after leftIf
+begins-with b [] h = absurd (h refl)
+begins-with b (x ∷ l) h = record { is = go (eqb x b) }
+  where
+    go : (t : Bool) → elim t [ true ↦ some l | false ↦ none ] ≡ leftIf t 1 (x ∷ l)
+    go true = refl
+    go false = refl
+
+module _ (x : ℕ) (key l : List ℕ) where
+  pub line-no-key : (r : Bool) → Starts key l r → r ≡ false → LineOf (numberTo (x ∷ []) key) l NotOfForm
+  unfolding numberTo lineOf taken leftIf
+  line-no-key r s e = record { is = rw (numberTo, s .is, e); within = omega arith }
+
+  module _ (word end : List ℕ) (n : ℕ) (r q p : Bool) (f : Starts (x ∷ []) end q) (s : Starts key l r) (e : r ≡ true) (m : end ≡ drop n word)
       (w : word ≡ drop (length key) l) (d : n ≡ length (digits word)) where
-    known : numberLine key l ≡ closed (digits word) (leftIf q 1 end)
-    unfolding numberLine leftIf
-    known = (rw (numberLine, s .is, e, ← w, ← d, ← x)) ∙ ap (closed (digits word)) (f .is)
+    known : numberTo (x ∷ []) key l ≡ closed (digits word) (leftIf q 1 end)
+    unfolding numberTo leftIf
+    known = (rw (numberTo, s .is, e, ← w, ← d, ← m)) ∙ ap (closed (digits word)) (f .is)
 
-    pub line-no-end : q ≡ false → LineOf (numberLine key) l NotOfForm
+    pub line-no-end : q ≡ false → LineOf (numberTo (x ∷ []) key) l NotOfForm
     unfolding lineOf taken leftIf closed
     line-no-end g = record { is = known ∙ rw (g); within = omega arith }
 
-    pub line-no-number : q ≡ true → p ≡ isNumber (digits word) → p ≡ false → LineOf (numberLine key) l NotOfForm
+    pub line-no-number : q ≡ true → p ≡ isNumber (digits word) → p ≡ false → LineOf (numberTo (x ∷ []) key) l NotOfForm
     unfolding lineOf taken leftIf closed
     line-no-number g h k = record { is = known ∙ rw (g, ← h, k); within = omega arith }
 
-    pub line-number : (v : ℕ) → q ≡ true → p ≡ isNumber (digits word) → p ≡ true → v ≡ valueOf 0 (digits word) → LineOf (numberLine key) l (Value v (length key + n + 1))
+    pub line-number : (v : ℕ) → q ≡ true → p ≡ isNumber (digits word) → p ≡ true → v ≡ valueOf 0 (digits word) → LineOf (numberTo (x ∷ []) key) l (Value v (length key + n + 1))
     unfolding lineOf taken leftIf closed
     line-number v g h k y = record {
-      is = known ∙ rw (g, ← h, k, ← y, x, w, drop-drop n (length key) l, drop-drop 1 (length key + n) l);
-      within = omega (arith, starts-length key l r s e, starts-length (text "\n") end q f g, ap length x, length-drop n word, ap length w, length-drop (length key) l);
+      is = known ∙ rw (g, ← h, k, ← y, m, w, drop-drop n (length key) l, drop-drop 1 (length key + n) l);
+      within = omega (arith, starts-length key l r s e, starts-length (x ∷ []) end q f g, ap length m, length-drop n word, ap length w, length-drop (length key) l);
     }
 
     within-line : q ≡ true → length key + n + 1 ≤ length l
-    within-line g = omega (arith, starts-length key l r s e, starts-length (text "\n") end q f g, ap length x, length-drop n word, ap length w, length-drop (length key) l)
+    within-line g = omega (arith, starts-length key l r s e, starts-length (x ∷ []) end q f g, ap length m, length-drop n word, ap length w, length-drop (length key) l)
 
     pub line-fits : q ≡ true → length l < 2 ^ 64 → Fits w64 (length key + n + 1)
     line-fits g h = record { fits = omega (arith, within-line g) }
 
     pub word-fits : q ≡ true → length l < 2 ^ 64 → Fits w64 (length key + n)
     word-fits g h = record { fits = omega (arith, within-line g) }
+
+-- a line of a key and a number is one up to a line feed
+pub line-of-to : (key l : List ℕ) (r : LineRead) → LineOf (numberTo (10 ∷ []) key) l r → LineOf (numberLine key) l r
+line-of-to key l r h = record { is = line-to key l ∙ h .is; within = h .within }
 
 -- ---- the line of the order
 module _ (l : List ℕ) (r q : Bool) (s : Starts (text "order=big\n") l r) where
@@ -296,4 +318,4 @@ pub ruleset numbers = (needs, valued-none, valued-more, valued-small, valued-end
 
 pub ruleset forms = (needs, number-none, number-long, number-one, number-rest, first-in)
 
-pub ruleset lines = (needs, not-true, not-false, starts-length, count-within, number-short, line-no-key, line-no-end, line-no-number, line-number, line-fits, word-fits, order-big, order-little, order-none)
+pub ruleset lines = (needs, not-true, not-false, starts-length, count-within, number-short, begins-none, begins-with, line-of-to, line-no-key, line-no-end, line-no-number, line-number, line-fits, word-fits, order-big, order-little, order-none)

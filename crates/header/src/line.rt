@@ -2,9 +2,10 @@
 ghost use mathlib.Core.Path.{_≡_};
 ghost use Prim.Native.Nat.{_+_, _-_, _*_, _≤_, _<_};
 ghost use mathlib.Core.Bool.{true};
+ghost use mathlib.Core.List.{[], _∷_};
 ghost use lib.ListN.{length, drop};
-ghost use Rattle.laws.specs.Text.{text};
 ghost use Rattle.method.specs.Form.{digits, isDigit, isNumber, valueOf, numberLine, orderLine};
+ghost use Rattle.method.specs.OldForm.{numberTo};
 ghost use Rattle.header.specs.Lines.{Starts, LineOf};
 use crate::LineRead;
 
@@ -25,11 +26,14 @@ fn starts(bytes: &[u8], key: &[u8]) -> bool
     true
 }
 
-// Whether a line ends here, by a line feed.
-fn ends(bytes: &[u8]) -> bool
-    ensures { λ r. ⌜ Starts (text "\n") (now (bytes .entry)) r ⌝ }
+// Whether the bytes begin with a byte.
+fn begins(bytes: &[u8], b: u8) -> bool
+    ensures { λ r. ⌜ Starts (b ∷ []) (now (bytes .entry)) r ⌝ }
 {
-    starts(bytes, b"\n")
+    if bytes.len() == 0 {
+        return false;
+    }
+    bytes[0] == b
 }
 
 // The bytes from a place on.
@@ -102,9 +106,9 @@ fn value_of(bytes: &[u8], n: usize) -> u32
     v
 }
 
-// A line of a key and a number.
-pub fn number_line(bytes: &[u8], key: &[u8]) -> LineRead
-    ensures { λ r. ⌜ LineOf (numberLine (now (key .entry))) (now (bytes .entry)) r ⌝ }
+// A number after a key, up to a byte that ends it.
+pub fn number_to(bytes: &[u8], key: &[u8], end: u8) -> LineRead
+    ensures { λ r. ⌜ LineOf (numberTo (end ∷ []) (now (key .entry))) (now (bytes .entry)) r ⌝ }
 {
     if !starts(bytes, key) {
         return LineRead::NotOfForm;
@@ -112,8 +116,8 @@ pub fn number_line(bytes: &[u8], key: &[u8]) -> LineRead
     let from = key.len();
     let word = rest(bytes, from);
     let n = digit_count(word);
-    let end = rest(word, n);
-    if !ends(end) {
+    let left = rest(word, n);
+    if !begins(left, end) {
         return LineRead::NotOfForm;
     }
     if is_number(word, n) {
@@ -121,6 +125,13 @@ pub fn number_line(bytes: &[u8], key: &[u8]) -> LineRead
     } else {
         LineRead::NotOfForm
     }
+}
+
+// A line of a key and a number.
+pub fn number_line(bytes: &[u8], key: &[u8]) -> LineRead
+    ensures { λ r. ⌜ LineOf (numberLine (now (key .entry))) (now (bytes .entry)) r ⌝ }
+{
+    number_to(bytes, key, b'\n')
 }
 
 // The line of the order: 0 for `big`, 1 for `little`.

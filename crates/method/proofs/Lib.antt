@@ -1,2 +1,3 @@
 -- The hand cases.
 pub mod Cases
+pub mod OldCases

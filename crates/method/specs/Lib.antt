@@ -7,4 +7,5 @@ pub mod Cycle
 pub mod Rounds
 pub mod Calls
 pub mod Program
+pub mod OldForm
 pub mod Computing

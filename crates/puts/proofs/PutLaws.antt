@@ -76,23 +76,15 @@ module _ (xs ys zs a : List ℕ) (i : ℕ) (r : i + length (xs ++ ys ++ zs) ≤ 
 pub all-put : (xs ys zs a b c d : List ℕ) (i j k m : ℕ) → Put xs a i b j → Put ys b j c k → Put zs c k d m → Put (xs ++ ys ++ zs) a i d m
 all-put xs ys zs a b c d i j k m p q u = put-then (put-then p q) u
 
--- a line: key, number, line feed
-module _ (key : List ℕ) (n : ℕ) (a : List ℕ) (i : ℕ) where
-  line-room : i + length (line key (decimal n)) ≤ length a → i + length (key ++ decimal n ++ text "\n") ≤ length a
-  unfolding line
-  line-room r = r
+-- a line of a key and a number: key, number, line feed
+pub line-room : (key : List ℕ) (n : ℕ) (a : List ℕ) (i : ℕ) → i + length (line key (decimal n)) ≤ length a → i + length (key ++ decimal n ++ text "\n") ≤ length a
+unfolding line
+line-room key n a i r = r
 
-  pub line-first : i + length (line key (decimal n)) ≤ length a → i + length (key) ≤ length a
-  line-first r = first-room (key) (decimal n) (text "\n") a i (line-room r)
+pub line-put : (key : List ℕ) (n : ℕ) (a b : List ℕ) (i j : ℕ) → Put (key ++ decimal n ++ text "\n") a i b j → Put (line key (decimal n)) a i b j
+unfolding line
+line-put key n a b i j p = p
 
-  pub line-second : (b : List ℕ) (j : ℕ) → i + length (line key (decimal n)) ≤ length a → Put (key) a i b j → j + length (decimal n) ≤ length b
-  line-second b j r p = second-room (key) (decimal n) (text "\n") a i (line-room r) b j p
+pub ruleset parts = (needs, first-room, second-room, third-room, all-put)
 
-  pub line-third : (b c : List ℕ) (j k : ℕ) → i + length (line key (decimal n)) ≤ length a → Put (key) a i b j → Put (decimal n) b j c k → k + length (text "\n") ≤ length c
-  line-third b c j k r p q = third-room (key) (decimal n) (text "\n") a i (line-room r) b j p c k q
-
-  pub line-put : (b c d : List ℕ) (j k m : ℕ) → Put (key) a i b j → Put (decimal n) b j c k → Put (text "\n") c k d m → Put (line key (decimal n)) a i d m
-  unfolding line
-  line-put b c d j k m p q u = all-put _ _ _ a b c d i j k m p q u
-
-pub ruleset parts = (needs, line-first, line-second, line-third, line-put)
+pub ruleset lines = (needs, line-room, line-put)

@@ -131,9 +131,9 @@ digits-stop [] x rest a e = digits-cons x rest ∙ ap (λ t. onward t x (digits 
 digits-stop (d ∷ ds) x rest a e =
     digits-cons d (ds ++ (x ∷ rest)) ∙ ap₂ (λ t l. onward t d l) (is-digit d (a .0)) (digits-stop ds x rest (a .1) e)
 
-pub decimal-stop : (n : ℕ) (rest : List ℕ) → digits (decimal n ++ (10 ∷ rest)) ≡ decimal n
-unfolding isDigit between
-decimal-stop n rest = digits-stop (decimal n) 10 rest (decimal-digits n) refl
+-- a number's digits end before a byte that is none
+pub decimal-stop : (n x : ℕ) (rest : List ℕ) → isDigit x ≡ false → digits (decimal n ++ (x ∷ rest)) ≡ decimal n
+decimal-stop n x rest e = digits-stop (decimal n) x rest (decimal-digits n) e
 
 -- what is read are digits
 pub digits-digits : (bs : List ℕ) → AllDigits (digits bs)

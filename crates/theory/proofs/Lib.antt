@@ -30,3 +30,6 @@ pub mod Digits
 pub mod Bytes
 pub mod Lines
 pub mod RoundTrip
+pub mod OldBytes
+pub mod OldLines
+pub mod OldRoundTrip

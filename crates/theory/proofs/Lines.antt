@@ -16,7 +16,9 @@ use Rattle.method.specs.declared.Order.the-variants.{Big, Little}
 use Rattle.method.specs.declared.Sides.{Sides}
 use Rattle.method.specs.declared.Settings.{Settings}
 use Rattle.method.specs.declared.Found.the-variants.{Nowhere}
-use Rattle.method.specs.Form.{decimal, digits, isNumber, valueOf, Line, bad, good, after, closed, numberLine, orderLine, line, orderWord, orderOf, lines, Lines, wrong, right, more, readLines, Header, headerOf, header, wrongLine, badLine, headerWritten}
+use Rattle.method.specs.Cast.{between}
+use Rattle.method.specs.OldForm.{numberTo}
+use Rattle.method.specs.Form.{decimal, isDigit, digits, isNumber, valueOf, Line, bad, good, after, closed, numberLine, orderLine, line, orderWord, orderOf, lines, Lines, wrong, right, more, readLines, Header, headerOf, header, wrongLine, badLine, headerWritten}
 use Rattle.theory.proofs.Digits.{decimal-number, decimal-stop, value-decimal, digits-digits, digits-front, decimal-value, value-small}
 use Rattle.theory.proofs.Reach.{never}
 
@@ -54,32 +56,49 @@ after-is (k ∷ ks) (b ∷ bs) rest e = go (eqb b k) refl (sym (after-cons k ks 
     go true q r f = ap₂ (λ x l. x ∷ l) (eqb→eq b k (so q)) (f r)
     go false q r f = absurd (no-some refl r)
 
--- ---- a line with a number
-held : Option (List ℕ) → Line
-held none = bad
-held (some cs) = closed (digits cs) (after (text "\n") (drop (length (digits cs)) cs))
+-- ---- a number after a key, up to an end: one byte that is no digit
+held : List ℕ → Option (List ℕ) → Line
+held end none = bad
+held end (some cs) = closed (digits cs) (after end (drop (length (digits cs)) cs))
 
-number-held : (key bs : List ℕ) → numberLine key bs ≡ held (after key bs)
-unfolding numberLine held
-number-held key bs = go (after key bs)
+to-held : (end key bs : List ℕ) → numberTo end key bs ≡ held end (after key bs)
+unfolding numberTo held
+to-held end key bs = go (after key bs)
   where
-    go : (o : Option (List ℕ)) → elim o [ none ↦ bad | some cs ↦ closed (digits cs) (after (text "\n") (drop (length (digits cs)) cs)) ] ≡ held o
+    go : (o : Option (List ℕ)) → elim o [ none ↦ bad | some cs ↦ closed (digits cs) (after end (drop (length (digits cs)) cs)) ] ≡ held end o
     go none = refl
     go (some cs) = refl
 
-line-split : (key word rest : List ℕ) → line key word ++ rest ≡ key ++ (word ++ (10 ∷ rest))
-unfolding line
-line-split key word rest = append-assoc (key ++ word) (10 ∷ []) rest ∙ append-assoc key word (10 ∷ rest)
+-- a line of a key and a number is one up to a line feed
+pub line-to : (key bs : List ℕ) → numberLine key bs ≡ numberTo (text "\n") key bs
+unfolding numberLine held
+line-to key bs = go (after key bs) ∙ sym (to-held (text "\n") key bs)
+  where
+    go : (o : Option (List ℕ)) → elim o [ none ↦ bad | some cs ↦ closed (digits cs) (after (text "\n") (drop (length (digits cs)) cs)) ] ≡ held (text "\n") o
+    go none = refl
+    go (some cs) = refl
+
+to-split : (x : ℕ) (key word rest : List ℕ) → key ++ word ++ (x ∷ []) ++ rest ≡ key ++ (word ++ (x ∷ rest))
+to-split x key word rest = append-assoc (key ++ word) (x ∷ []) rest ∙ append-assoc key word (x ∷ rest)
+
+pub number-to : (x : ℕ) (key : List ℕ) (v : ℕ) (rest : List ℕ) → isDigit x ≡ false → v < 10 ^ 7
+    → numberTo (x ∷ []) key (key ++ decimal v ++ (x ∷ []) ++ rest) ≡ good v rest
+unfolding held closed
+number-to x key v rest e h =
+    to-held (x ∷ []) key (key ++ decimal v ++ (x ∷ []) ++ rest)
+    ∙ ap (held (x ∷ [])) (ap (after key) (to-split x key (decimal v) rest) ∙ after-own key (decimal v ++ (x ∷ rest)))
+    ∙ ap (λ ds. closed ds (after (x ∷ []) (drop (length ds) (decimal v ++ (x ∷ rest))))) (decimal-stop v x rest e)
+    ∙ ap (λ l. closed (decimal v) (after (x ∷ []) l)) (drop-append-seam (decimal v) (x ∷ rest))
+    ∙ ap (closed (decimal v)) (after-own (x ∷ []) rest)
+    ∙ ap₂ (λ t n. cond t (good n rest) bad) (decimal-number v h) (value-decimal v)
+
+line-feed : isDigit 10 ≡ false
+unfolding isDigit between
+line-feed = refl
 
 pub number-line : (key : List ℕ) (v : ℕ) (rest : List ℕ) → v < 10 ^ 7 → numberLine key (line key (decimal v) ++ rest) ≡ good v rest
-unfolding held closed
-number-line key v rest h =
-    number-held key (line key (decimal v) ++ rest)
-    ∙ ap held (ap (after key) (line-split key (decimal v) rest) ∙ after-own key (decimal v ++ (10 ∷ rest)))
-    ∙ ap (λ ds. closed ds (after (text "\n") (drop (length ds) (decimal v ++ (10 ∷ rest))))) (decimal-stop v rest)
-    ∙ ap (λ l. closed (decimal v) (after (text "\n") l)) (drop-append-seam (decimal v) (10 ∷ rest))
-    ∙ ap (closed (decimal v)) (after-own (text "\n") rest)
-    ∙ ap₂ (λ t n. cond t (good n rest) bad) (decimal-number v h) (value-decimal v)
+unfolding line
+number-line key v rest h = line-to key (line key (decimal v) ++ rest) ∙ number-to 10 key v rest line-feed h
 
 not-good : {l : Line} {v : ℕ} {rest : List ℕ} → l ≡ bad → l ≡ good v rest → ⊥
 not-good p q = let z : _≡_ {A = ℕ} 0 1 = cc in omega arith
@@ -90,38 +109,49 @@ good-value p = cc
 good-rest : {v v′ : ℕ} {rest rest′ : List ℕ} → good v rest ≡ good v′ rest′ → rest ≡ rest′
 good-rest p = cc
 
--- what a good line was
-pub record Spelt (key bs : List ℕ) (v : ℕ) (rest : List ℕ) : Type 0 where
-  pub bytes : bs ≡ line key (decimal v) ++ rest
+-- what was read up to an end
+pub record SpeltTo (x : ℕ) (key bs : List ℕ) (v : ℕ) (rest : List ℕ) : Type 0 where
+  pub bytes : bs ≡ key ++ decimal v ++ (x ∷ []) ++ rest
   pub small : v < 10 ^ 7
 
-spelt-held : (cs : List ℕ) (v : ℕ) (rest : List ℕ) → held (some cs) ≡ good v rest → (cs ≡ decimal v ++ (10 ∷ rest)) × (v < 10 ^ 7)
+spelt-held : (x : ℕ) (cs : List ℕ) (v : ℕ) (rest : List ℕ) → held (x ∷ []) (some cs) ≡ good v rest → (cs ≡ decimal v ++ (x ∷ rest)) × (v < 10 ^ 7)
 unfolding held closed
-spelt-held cs v rest e = go (after (text "\n") (drop (length (digits cs)) cs)) refl e
+spelt-held x cs v rest e = go (after (x ∷ []) (drop (length (digits cs)) cs)) refl e
   where
-    go : (o : Option (List ℕ)) → after (text "\n") (drop (length (digits cs)) cs) ≡ o → closed (digits cs) o ≡ good v rest → (cs ≡ decimal v ++ (10 ∷ rest)) × (v < 10 ^ 7)
+    go : (o : Option (List ℕ)) → after (x ∷ []) (drop (length (digits cs)) cs) ≡ o → closed (digits cs) o ≡ good v rest → (cs ≡ decimal v ++ (x ∷ rest)) × (v < 10 ^ 7)
     go none q r = absurd (not-good refl r)
     go (some l) q r = num (isNumber (digits cs)) refl r
       where
-        num : (t : Bool) → isNumber (digits cs) ≡ t → cond t (good (valueOf 0 (digits cs)) l) bad ≡ good v rest → (cs ≡ decimal v ++ (10 ∷ rest)) × (v < 10 ^ 7)
+        num : (t : Bool) → isNumber (digits cs) ≡ t → cond t (good (valueOf 0 (digits cs)) l) bad ≡ good v rest → (cs ≡ decimal v ++ (x ∷ rest)) × (v < 10 ^ 7)
         num false n s = absurd (not-good refl s)
         num true n s =
             let value = good-value s in
             let word : digits cs ≡ decimal v = sym (decimal-value (digits cs) (digits-digits cs) n) ∙ ap decimal value in (
               sym (take-append-drop (length (digits cs)) cs)
-                  ∙ ap₂ (λ x y. x ++ y) (digits-front cs ∙ word) (after-is (text "\n") (drop (length (digits cs)) cs) l q ∙ ap (λ r. 10 ∷ r) (good-rest s)),
+                  ∙ ap₂ (λ x y. x ++ y) (digits-front cs ∙ word) (after-is (x ∷ []) (drop (length (digits cs)) cs) l q ∙ ap (λ r. x ∷ r) (good-rest s)),
               subst (λ n. n < 10 ^ 7) value (value-small (digits cs) (digits-digits cs) n),
             )
 
-pub line-number : (key bs : List ℕ) (v : ℕ) (rest : List ℕ) → numberLine key bs ≡ good v rest → Spelt key bs v rest
+pub to-number : (x : ℕ) (key bs : List ℕ) (v : ℕ) (rest : List ℕ) → numberTo (x ∷ []) key bs ≡ good v rest → SpeltTo x key bs v rest
 unfolding held
-line-number key bs v rest e = go (after key bs) refl (sym (number-held key bs) ∙ e)
+to-number x key bs v rest e = go (after key bs) refl (sym (to-held (x ∷ []) key bs) ∙ e)
   where
-    go : (o : Option (List ℕ)) → after key bs ≡ o → held o ≡ good v rest → Spelt key bs v rest
+    go : (o : Option (List ℕ)) → after key bs ≡ o → held (x ∷ []) o ≡ good v rest → SpeltTo x key bs v rest
     go none q r = absurd (not-good refl r)
     go (some cs) q r =
-        let s = spelt-held cs v rest r in
-        record { bytes = after-is key bs cs q ∙ ap (λ l. key ++ l) (s .0) ∙ sym (line-split key (decimal v) rest); small = s .1 }
+        let s = spelt-held x cs v rest r in
+        record { bytes = after-is key bs cs q ∙ ap (λ l. key ++ l) (s .0) ∙ sym (to-split x key (decimal v) rest); small = s .1 }
+
+-- what a good line was
+pub record Spelt (key bs : List ℕ) (v : ℕ) (rest : List ℕ) : Type 0 where
+  pub bytes : bs ≡ line key (decimal v) ++ rest
+  pub small : v < 10 ^ 7
+
+pub line-number : (key bs : List ℕ) (v : ℕ) (rest : List ℕ) → numberLine key bs ≡ good v rest → Spelt key bs v rest
+unfolding line
+line-number key bs v rest e =
+    let s = to-number 10 key bs v rest (sym (line-to key bs) ∙ e) in
+    record { bytes = s .bytes; small = s .small }
 
 -- ---- the order's line: its value is 0 for `big`, 1 for `little`
 pub codeOf : Order → ℕ

@@ -50,7 +50,7 @@ body-back h e b =
     ∙ take-append-drop n (h .body)
 
 -- a part of bytes
-bytes-after : (front rest : List ℕ) → Bytes (front ++ rest) → Bytes rest
+pub bytes-after : (front rest : List ℕ) → Bytes (front ++ rest) → Bytes rest
 bytes-after front rest b i = subst (λ x. x < 256) (getD-append-add front rest i 0) (b (length front + i))
 
 -- ---- READ, THEN WRITTEN: the same bytes

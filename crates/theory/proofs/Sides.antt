@@ -17,7 +17,7 @@ pub record Fit (s : Sides) : Type 0 where
   pub nz-one : 1 ≤ s .nz
   pub nz-32 : s .nz ≤ 32
 
-from : (lo hi x : ℕ) → T (between lo hi x) → lo ≤ x
+pub from : (lo hi x : ℕ) → T (between lo hi x) → lo ≤ x
 unfolding between
 from lo hi x t = leb→le lo x (and-l (leb lo x) (leb x hi) t)
 

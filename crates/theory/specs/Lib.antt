@@ -5,4 +5,5 @@ pub mod Answered
 pub mod Levels
 pub mod Sessions
 pub mod Waves
+pub mod OldSessions
 pub mod Quiet

@@ -20,7 +20,7 @@ fn wide(b: u8) -> u32
 }
 
 // A word from its bytes, the most significant first.
-fn word(a: u8, b: u8, c: u8, d: u8) -> u32
+pub fn word(a: u8, b: u8, c: u8, d: u8) -> u32
     ensures { λ r. ⌜ r ≡ mostFirst 0 (a ∷ b ∷ c ∷ d ∷ []) ⌝ }
 {
     256 * (256 * (256 * wide(a) + wide(b)) + wide(c)) + wide(d)
@@ -54,7 +54,7 @@ fn word_at(bytes: &[u8], at: usize, order: Order) -> u32
 }
 
 // A word as a signed number, in two's complement.
-fn signed(w: u32) -> i32
+pub fn signed(w: u32) -> i32
     ensures { λ r. ⌜ r ≡ twosComplement w ⌝ }
 {
     if w < 2147483648 {

@@ -90,7 +90,7 @@ fn put_four(output: &mut [u8], at: usize, a: u8, b: u8, c: u8, d: u8) -> usize
 }
 
 // The byte of a word that stands k bytes above the least, with `unit` 256 to the k.
-fn byte_of(w: u32, unit: u32) -> u8
+pub fn byte_of(w: u32, unit: u32) -> u8
     requires { ⌜ 0 < unit ⌝ }
     ensures { λ r. ⌜ r ≡ w / unit % 256 ⌝ }
 {

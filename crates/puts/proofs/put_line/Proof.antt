@@ -1,33 +1,20 @@
--- `puts::put_line` meets its contract: three parts. Assumes nothing.
-use Rattle.puts.proofs.PutLaws.{parts}
+-- `puts::put_line` meets its contract. Assumes nothing.
+use Rattle.puts.proofs.PutLaws.{lines}
 use Rattle.puts.proofs.put_line.Statement.{statement}
 use Rattle.puts.proofs.put_line.Tie as tie
 
-put-bytes-requires : tie.Need-put-bytes-requires
-put-bytes-requires c κs = search parts
+slice-aggregate-put-number : tie.Need-slice-aggregate-put-number
+slice-aggregate-put-number c = search lines
 
-put-decimal-requires : tie.Need-put-decimal-requires
-put-decimal-requires c κs = search parts
-
-slice-aggregate-put-bytes : tie.Need-slice-aggregate-put-bytes
-slice-aggregate-put-bytes c = search parts
-
-put-bytes-requires-2 : tie.Need-put-bytes-requires-2
-put-bytes-requires-2 c κs = search parts
+put-number-requires : tie.Need-put-number-requires
+put-number-requires c κs = search lines
 
 same-length : tie.Need-same-length
-same-length c = search parts
+same-length c = search lines
 
 returns : tie.Need-returns
-returns c = search parts
+returns c = search lines
 
 pub put-line-spec : {M : Type 1} → statement M
 put-line-spec =
-    tie.close
-    (tie.spec
-    put-bytes-requires
-    put-decimal-requires
-    slice-aggregate-put-bytes
-    put-bytes-requires-2
-    same-length
-    returns)
+    tie.close (tie.spec slice-aggregate-put-number put-number-requires same-length returns)

@@ -1,61 +1,13 @@
--- `header::line::number_line` meets its contract: each return by the tests that led there. Assumes nothing.
+-- `header::line::number_line` meets its contract: a number up to a line feed. Assumes nothing.
 use Rattle.header.proofs.LineLaws.{lines}
 use Rattle.header.proofs.line.number_line.Statement.{statement}
 use Rattle.header.proofs.line.number_line.Tie as tie
 
-starts-requires : tie.Need-starts-requires
-starts-requires c κs = search lines
+number-to-requires : tie.Need-number-to-requires
+number-to-requires c κs = search lines
 
 returns : tie.Need-returns
 returns c = search lines
 
-rest-requires : tie.Need-rest-requires
-rest-requires c κs = search lines
-
-digit-count-requires : tie.Need-digit-count-requires
-digit-count-requires c κs = search lines
-
-rest-requires-2 : tie.Need-rest-requires-2
-rest-requires-2 c κs = search lines
-
-ends-requires : tie.Need-ends-requires
-ends-requires c κs = search lines
-
-returns-2 : tie.Need-returns-2
-returns-2 c = search lines
-
-is-number-requires : tie.Need-is-number-requires
-is-number-requires c κs = search lines
-
-value-of-requires : tie.Need-value-of-requires
-value-of-requires c κs = search lines
-
-add-t12 : tie.Need-add-t12
-add-t12 c = search lines
-
-add-t13 : tie.Need-add-t13
-add-t13 c = search lines
-
-returns-3 : tie.Need-returns-3
-returns-3 c = search lines
-
-returns-4 : tie.Need-returns-4
-returns-4 c = search lines
-
 pub number-line-spec : {M : Type 1} → statement M
-number-line-spec =
-    tie.close
-    (tie.spec
-    starts-requires
-    returns
-    rest-requires
-    digit-count-requires
-    rest-requires-2
-    ends-requires
-    returns-2
-    is-number-requires
-    value-of-requires
-    add-t12
-    add-t13
-    returns-3
-    returns-4)
+number-line-spec = tie.close (tie.spec number-to-requires returns)
