@@ -3,6 +3,7 @@
  *     harness replay      whole sessions, each behind a line `bytes=N`: the print of the program, with room for the greatest cast
  *     harness edges       direct calls of the solver with any sides, settings and lengths
  *     harness reread      reader, writer and walks by themselves, then direct calls at the edges of lengths and ranges
+ *     harness old         reader and writer of the old form, with any lengths
  *     harness onecycle    the cycle on many casts, each element of the result by its bits
  *     harness ticks       binary64 numbers as whole ticks
  *     harness layout      sizes and offsets of the interface's structs, as the compiler sees them and as a call fills them
@@ -29,6 +30,9 @@ uint32_t quetz_test_cycle(quetz_sides sides, uint32_t levels, uint32_t times,
 
 /* depth, and the first sealed cell, of a cast whose sides and lengths fit; else all 0 */
 test_walk quetz_test_walk(quetz_sides sides, const uint8_t *labels, size_t labels_length, uint32_t *words, size_t words_length);
+
+/* the label part of an old session that is read with room for so many values, copied to the front of the output; how long it is */
+size_t quetz_test_old_labels(quetz_settings settings, const uint8_t *session, size_t session_length, size_t room, uint8_t *output, size_t output_length);
 
 /* the whole tick that a number rounds to */
 test_tick quetz_test_tick(double x);
@@ -450,6 +454,83 @@ static int reread(void) {
     return 0;
 }
 
+/* ---------------------------------------------------------------- old */
+
+static void value_line(const char *key, const int32_t *values, size_t count) {
+    fputs(key, stdout);
+    for (size_t i = 0; i < count; i++) {
+        printf("%08" PRIx32, (uint32_t)values[i]);
+    }
+    puts("");
+}
+
+/* R, then tolerance, levels, rounds and how many values are lent, each 7 before; then the session. */
+static void old_reader(const uint8_t *raw, size_t length) {
+    size_t room = four_at(raw + 13), size = length - 17;
+    uint8_t *session = lend(size), *labels = lend(size);
+    int32_t *values = lend(room * sizeof(int32_t));
+    quetz_settings settings = {four_at(raw + 1), four_at(raw + 5), four_at(raw + 9)};
+    memcpy(session, raw + 17, size);
+    for (size_t i = 0; i < room; i++) {
+        values[i] = 7;
+    }
+    quetz_old_session s = quetz_old_read(settings, session, size, values, room);
+    size_t found = quetz_test_old_labels(settings, session, size, room, labels, size);
+    short_answer(s.answer);
+    line("nx=", s.sides.nx);
+    line("ny=", s.sides.ny);
+    line("nz=", s.sides.nz);
+    line("unit=", s.unit);
+    line("start=", s.start);
+    hex_line("labels=", labels, found);
+    value_line("values=", values, room);
+}
+
+/* W, then the sides, the unit, how many labels, values and output bytes, each 9 before, are lent; then the labels and the values. */
+static void old_writer(const uint8_t *raw, size_t length) {
+    size_t labels_length = four_at(raw + 17), count = four_at(raw + 21), room = four_at(raw + 25);
+    uint8_t *labels = lend(labels_length), *output = lend(room);
+    int32_t *values = lend(count * sizeof(int32_t));
+    memcpy(labels, raw + 29, labels_length);
+    for (size_t i = 0; i < count; i++) {
+        size_t at = 29 + labels_length + 4 * i;
+        values[i] = at + 4 <= length ? (int32_t)four_at(raw + at) : 0;
+    }
+    memset(output, 9, room);
+    quetz_sides sides = {four_at(raw + 1), four_at(raw + 5), four_at(raw + 9)};
+    quetz_written w = quetz_old_write(sides, four_at(raw + 13), labels, labels_length, values, count, output, room);
+    short_answer(w.answer);
+    line("count=", w.count);
+    hex_line("output=", output, room);
+}
+
+/* Frames as replay's. A frame that is too short for what it says ends the run. */
+static int old(void) {
+    uint8_t *raw = malloc(LONGEST);
+    if (raw == NULL) {
+        out_of_memory();
+    }
+    for (uint64_t number = 0;; number++) {
+        long size = frame_size();
+        if (size < 17 || size > LONGEST || !read_exactly(raw, (size_t)size)) {
+            break;
+        }
+        bool reads = raw[0] == 'R';
+        if (reads ? four_at(raw + 13) > MOST_CELLS : size < 29 || four_at(raw + 17) > MOST_CELLS || four_at(raw + 21) > MOST_CELLS || four_at(raw + 25) > LONGEST
+                                                         || 29 + (long)four_at(raw + 17) > size) {
+            bad_frame();
+            break;
+        }
+        line("call=", number);
+        (reads ? old_reader : old_writer)(raw, (size_t)size);
+        if (!given_back()) {
+            puts("guards=broken");
+        }
+    }
+    free(raw);
+    return 0;
+}
+
 /* ---------------------------------------------------------------- onecycle */
 
 /* The cycle on one cast, so many times: each starts from u = 0 and leaves b, so that all give the same. */
@@ -566,6 +647,11 @@ static int layout(void) {
     PLACE(quetz_session, order);
     PLACE(quetz_session, settings);
     PLACE(quetz_session, start);
+    SIZE(quetz_old_session);
+    PLACE(quetz_old_session, answer);
+    PLACE(quetz_old_session, sides);
+    PLACE(quetz_old_session, unit);
+    PLACE(quetz_old_session, start);
     SIZE(quetz_written);
     PLACE(quetz_written, answer);
     PLACE(quetz_written, count);
@@ -591,13 +677,13 @@ static int layout(void) {
 }
 
 int main(int count, char **words) {
-    static const struct { const char *name; int (*run)(void); } RUNS[] = {{"replay", replay}, {"edges", edges}, {"reread", reread}, {"onecycle", onecycle}, {"ticks", ticks}, {"layout", layout}};
+    static const struct { const char *name; int (*run)(void); } RUNS[] = {{"replay", replay}, {"edges", edges}, {"reread", reread}, {"old", old}, {"onecycle", onecycle}, {"ticks", ticks}, {"layout", layout}};
     exact = getenv("QUETZ_EXACT") != NULL;
     for (size_t k = 0; count == 2 && k < sizeof RUNS / sizeof RUNS[0]; k++) {
         if (strcmp(words[1], RUNS[k].name) == 0) {
             return RUNS[k].run();
         }
     }
-    fputs("usage: harness replay | edges | reread | onecycle | ticks | layout\n", stderr);
+    fputs("usage: harness replay | edges | reread | old | onecycle | ticks | layout\n", stderr);
     return 2;
 }

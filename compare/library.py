@@ -44,6 +44,11 @@ quetz_session.sides at 24 of 12
 quetz_session.order at 36 of 4
 quetz_session.settings at 40 of 12
 quetz_session.start at 56 of 8
+quetz_old_session has 48
+quetz_old_session.answer at 0 of 24
+quetz_old_session.sides at 24 of 12
+quetz_old_session.unit at 36 of 4
+quetz_old_session.start at 40 of 8
 quetz_written has 32
 quetz_written.answer at 0 of 24
 quetz_written.count at 24 of 8

@@ -1,5 +1,5 @@
 #!/usr/bin/env python3
-"""Reader and writer of the old session form, by our program `old_calls` and by the separate implementation compare/old_form.c, on generated calls, sound
+"""Reader and writer of the old session form, through the library and by the separate implementation compare/old_form.c, on generated calls, sound
 and damaged, also in several ways at once: byte for byte.
 
 old.py --folder FOLDER [--seed S] [--count N]     (FOLDER: where the separate implementation is built)"""
@@ -138,7 +138,7 @@ def main():
     program = build(options.folder)
     pick = random.Random("old " + options.seed)
     given = b"".join((reader if k % 2 else writer)(pick) for k in range(options.count))
-    ours = programs.run(programs.command("old_calls"), given)
+    ours = programs.run(programs.harness("old"), given)
     theirs = programs.run([program], given)
     seen = ours.count("call=")
     if seen != options.count:

@@ -50,7 +50,8 @@ typedef struct { quetz_sides sides; quetz_settings settings; } quetz_task;
  *  8      the limit of rounds was reached, not accepted         rounds, interior, depth
  *  9      stalled: no further round can be made                 rounds, interior, depth
  * 10      a header line is not of the form                      place: its line, 1 to 7, the first such
- * 11      the body is not 5 bytes a cell
+ * 11      the body is not 5 bytes a cell (of the old form, 3)
+ * 13      a value cannot be written in that unit                 place: the first such cell
  *
  * worst is the greatest absolute residual of the pressures handed back, interior the number of air cells, depth the greatest
  * over air cells of the least number of face steps through air to an opening. Fields not named are 0. 8 and 9 do not say
@@ -61,6 +62,9 @@ typedef struct { uint32_t number, place, rounds, worst, interior, depth; } quetz
 /* What is read of a session. order is 0 for big, 1 for little. The labels are the cells' bytes at session + start. On a
  * refusal every field but answer is 0. */
 typedef struct { quetz_answer answer; quetz_sides sides; uint32_t order; quetz_settings settings; size_t start; } quetz_session;
+
+/* What is read of a session of the old form: its unit in place of order and settings; the labels stand behind the values. */
+typedef struct { quetz_answer answer; quetz_sides sides; uint32_t unit; size_t start; } quetz_old_session;
 
 /* count: how many bytes of the output were written, 0 on a refusal */
 typedef struct { quetz_answer answer; size_t count; } quetz_written;
@@ -89,6 +93,19 @@ quetz_written quetz_write(quetz_task task, uint32_t order,
                           const uint8_t *labels, size_t labels_length,
                           const int32_t *values, size_t values_length,
                           uint8_t *output, size_t output_length);
+
+/* The old form, which names neither order nor settings: a line `size=AxBxC`, a line `unit=U`, then a 16-bit value a cell, the
+ * most significant byte first, then the labels. A tick value is the stored number times the unit, 1 to 1,000.
+ * Reading checks 10 (place 1 or 2), 1, 11, 2, 3 (the unit, or a setting that the caller passes), 4, 5 (the product). */
+quetz_old_session quetz_old_read(quetz_settings settings,
+                                 const uint8_t *session, size_t session_length,
+                                 int32_t *values, size_t values_length);
+
+/* Writing checks 1, 3 (the unit), 2, 4, 5, then 13: a value that is no multiple of the unit, or whose quotient does not fit 16 bits. */
+quetz_written quetz_old_write(quetz_sides sides, uint32_t unit,
+                              const uint8_t *labels, size_t labels_length,
+                              const int32_t *values, size_t values_length,
+                              uint8_t *output, size_t output_length);
 
 /* How many elements each room of quetz_solve needs for a cast of these sides; 0 where a side is not 1 to 32. */
 size_t quetz_byte_need(quetz_sides sides);

@@ -1,5 +1,5 @@
 -- The cycle run again; what the calls of a run ask, and its result; what the exported calls make of it. Assumes nothing.
-use Prim.Native.Nat.{ℕ, zero, suc, _+_, _-_, _*_, _≤_}
+use Prim.Native.Nat.{ℕ, zero, suc, _+_, _-_, _*_, _≤_, _<_}
 use mathlib.Core.Path.{_≡_, refl, sym, ap, _∙_}
 use mathlib.Core.Bool.{Bool, true}
 use mathlib.Core.List.{List}
@@ -11,6 +11,7 @@ use lib.Ieee.{Float}
 use Rattle.laws.specs.Binary64.{+0}
 use Rattle.method.specs.declared.Sides.{Sides}
 use Rattle.method.specs.declared.Found.the-variants.{Nowhere, At}
+use Rattle.method.specs.declared.Settings.{Settings}
 use Rattle.method.specs.declared.Tick.{Tick}
 use Rattle.method.specs.declared.Tick.the-variants.{Whole, Refused}
 use Rattle.method.specs.Cast.{cells, sidesFit, judged, interior}
@@ -33,7 +34,8 @@ use Rattle.cycle.specs.Strokes.{Ended, Put}
 use Rattle.cycle.specs.Rooms.{Ready, cellsOf, cycleFrom, fieldsFrom, Cycled}
 use Rattle.cycle.proofs.Laws.{put-then}
 use Rattle.cycle.proofs.Calls.{prepared-from, ready-first, fields-most, zero-end, zero-part, cycled-end}
-use Rattle.library_tests.specs.Run.{Asked, CycleOf, sealedAs, WalkOf, tickAs, TickOf}
+use Rattle.library_tests.specs.Run.{Asked, CycleOf, sealedAs, WalkOf, tickAs, TickOf, labelPart, LabelsOf}
+use Rattle.puts.specs.Puts as Puts
 use Rattle.library_tests.specs.declared.Walk.{Walk}
 use Rattle.library_tests.specs.declared.Ticked.{Ticked}
 use Rattle.walks.specs.declared.Walked.{Walked}
@@ -147,4 +149,11 @@ pub tick-none : (x : Float) (t : Tick) → t ≡ tick x → t ≡ Refused → Ti
 unfolding tickAs
 tick-none x t e q = record { is = rw (← e, q) refl }
 
-pub ruleset calling = (needs, tick-whole, tick-none, sides-known, asked-is, not-run, is-run, not-walked, roomy-is, walked-sealed, walked-open)
+module _ (t : Settings) (bytes : List ℕ) (room : ℕ) (old ls : List ℕ) (e : ls ≡ labelPart t bytes room) where
+  pub labels-put : (r : ℕ) (new : List ℕ) → Puts.Put ls old 0 new r → LabelsOf t bytes room old r new
+  labels-put r new z = record { found = λ h. rw e at z }
+
+  pub labels-short : length old < length ls → LabelsOf t bytes room old 0 old
+  labels-short h = record { found = λ l. absurd (omega (arith, ap length e)) }
+
+pub ruleset calling = (needs, labels-put, labels-short, tick-whole, tick-none, sides-known, asked-is, not-run, is-run, not-walked, roomy-is, walked-sealed, walked-open)

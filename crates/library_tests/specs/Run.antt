@@ -3,6 +3,7 @@ use Prim.Native.Nat.{ℕ, _+_, _-_, _*_, _≤_}
 use mathlib.Core.Path.{_≡_}
 use mathlib.Core.List.{List}
 use lib.Ieee.{Float}
+use lib.ListN.{length}
 use lib.IntN.{ℤ}
 use Rattle.method.specs.declared.Sides.{Sides}
 use Rattle.method.specs.declared.Found.{Found}
@@ -13,6 +14,10 @@ use Rattle.method.specs.declared.Tick.{Tick}
 use Rattle.method.specs.declared.Tick.the-variants.{Whole, Refused}
 use Rattle.method.specs.Cycle.{cycle}
 use Rattle.method.specs.Rounds.{tick}
+use Rattle.method.specs.declared.Settings.{Settings}
+use Rattle.method.specs.OldForm.{oldReading}
+use Rattle.old_read.specs.OldReads.{oldAsked}
+use Rattle.puts.specs.Puts as Put
 use Rattle.method.specs.Answers.{byteNeed}
 use Rattle.theory.proofs.Sides.{Fit}
 use Rattle.smooth.specs.Fields.{u-of, b-of}
@@ -52,3 +57,10 @@ tickAs Refused is value = is ≡ 0
 -- THE PROMISE of quetz_test_tick
 pub record TickOf (x : Float) (r : Ticked) : Type 0 where
   pub is : tickAs (tick x) (r .is_whole) (r .value)
+
+-- THE PROMISE of quetz_test_old_labels: where the output is long enough, the label part stands at its front, and its length comes back
+abbrev pub labelPart : Settings → List ℕ → ℕ → List ℕ
+labelPart t bytes room = oldReading (oldAsked t bytes room) .labels
+
+pub record LabelsOf (t : Settings) (bytes : List ℕ) (room : ℕ) (old : List ℕ) (r : ℕ) (new : List ℕ) : Type 0 where
+  pub found : length (labelPart t bytes room) ≤ length old → Put.Put (labelPart t bytes room) old 0 new r

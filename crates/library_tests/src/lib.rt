@@ -1,4 +1,4 @@
-// What the comparisons call through C and no user needs: the cycle, the walks and ticks by themselves. Linked into compare/harness.c alone.
+// What the comparisons call through C and no user needs: the cycle, the walks, ticks and an old session's label part by themselves. Linked into compare/harness.c alone.
 ghost use mathlib.Core.Path.{_≡_};
 ghost use Prim.Native.Nat.{_-_};
 ghost use lib.ListN.{length};
@@ -8,12 +8,13 @@ ghost use Rattle.levels.specs.Levels.{base};
 ghost use Rattle.smooth.specs.Fields.{u-of, b-of};
 ghost use Rattle.cycle.specs.Strokes.{Ended};
 ghost use Rattle.cycle.specs.Rooms.{Ready, Cycled, fieldsFrom};
-ghost use Rattle.library_tests.specs.Run.{Asked, CycleOf, WalkOf, TickOf};
+ghost use Rattle.library_tests.specs.Run.{Asked, CycleOf, WalkOf, TickOf, LabelsOf};
 use checks::cast::sides_fit;
 use grid::place::cell_count;
 use levels::lists::Lists;
 use levels::sides::Levels;
 use method::Found;
+use method::Settings;
 use method::Sides;
 use method::Tick;
 
@@ -182,4 +183,21 @@ pub extern "C" fn quetz_test_tick(x: f64) -> Ticked
             value: 0,
         },
     }
+}
+
+// The label part of an old session that is read with room for so many values, copied to the front of the output: how long it is, or 0 where the output is too short.
+#[no_mangle]
+pub extern "C" fn quetz_test_old_labels(
+    settings: Settings,
+    bytes: &[u8],
+    room: usize,
+    output: &mut [u8],
+) -> usize
+    ensures { λ r. ⌜ LabelsOf settings (now (bytes .entry)) room (now (output .entry)) r (now (output .exit)) ⌝ }
+{
+    let labels = old_read::old_labels(settings, bytes, room);
+    if output.len() < labels.len() {
+        return 0;
+    }
+    puts::put_bytes(output, 0, labels)
 }

@@ -22,6 +22,7 @@ enum Judged {
 }
 
 // What the reader hands back: the label part of the bytes begins at `start`.
+#[repr(C)]
 pub struct OldSession {
     pub answer: Answer,
     pub sides: Sides,

@@ -11,6 +11,7 @@ use method::Sides;
 use old_put::put_old_session;
 
 // What the writer hands back.
+#[repr(C)]
 pub struct OldWritten {
     pub answer: Answer,
     pub count: usize,

@@ -2,6 +2,8 @@
 ghost use mathlib.Core.Path.{_≡_};
 ghost use Rattle.method.specs.Answers.{byteNeed, floatNeed, wordNeed};
 ghost use Rattle.solve.specs.Solve.{asked, SolveOf};
+ghost use Rattle.old_read.specs.OldReads.{OldReadOf};
+ghost use Rattle.old_write.specs.OldWrites.{OldWriteOf};
 ghost use Rattle.quetzalcup.specs.Face.{needBy, orderNumber, ReadBack, WrittenBy, unordered};
 use checks::cast::sides_fit;
 use checks::rule::refusal;
@@ -10,6 +12,8 @@ use method::Answer;
 use method::Order;
 use method::Settings;
 use method::Sides;
+use old_read::OldSession;
+use old_write::OldWritten;
 use session::Written;
 
 // What is to be solved or written, beside the cells.
@@ -121,6 +125,28 @@ pub extern "C" fn quetz_write(
         values,
         output,
     )
+}
+
+// Reads a session of the old form, with the settings that the caller passes.
+#[no_mangle]
+pub extern "C" fn quetz_old_read(settings: Settings, bytes: &[u8], values: &mut [i32]) -> OldSession
+    ensures { λ r. ⌜ OldReadOf settings (now (bytes .entry)) (now (values .entry)) r (now (values .exit)) ⌝ }
+{
+    old_read::read_old(settings, bytes, values)
+}
+
+// Writes a session in the old form.
+#[no_mangle]
+pub extern "C" fn quetz_old_write(
+    sides: Sides,
+    unit: u32,
+    labels: &[u8],
+    values: &[i32],
+    output: &mut [u8],
+) -> OldWritten
+    ensures { λ r. ⌜ OldWriteOf sides unit (now (labels .entry)) (now (values .entry)) (now (output .entry)) r (now (output .exit)) ⌝ }
+{
+    old_write::write_old(sides, unit, labels, values, output)
 }
 
 // How many bytes, binary64 and u32 the solver's rooms need for a cast of these sides; 0 where a side is out of range.
