@@ -20,8 +20,8 @@
 
 /* ---------------------------------------------------------------- what is exported for tests alone (crates/library_tests) */
 
-typedef struct { uint32_t fits, depth, is_sealed, sealed; } test_walk;
-typedef struct { uint32_t is_whole; int64_t value; } test_tick;
+typedef struct { uint32_t fits, depth, found, sealed; } test_walk;
+typedef struct { uint32_t whole; int64_t value; } test_tick;
 
 /* u from b by the cycle, run so many times, on a room that starts with u and b: 1; or 0 where sides, levels or lengths do not fit */
 uint32_t quetz_test_cycle(quetz_sides sides, uint32_t levels, uint32_t times,
@@ -375,7 +375,7 @@ static void reread_session(const uint8_t *session, size_t length) {
         written_line("little=", s, 1, labels, values, n);
         uint32_t *words = lend(2 * n * sizeof(uint32_t));
         test_walk w = quetz_test_walk(s.sides, labels, n, words, 2 * n);
-        line(w.is_sealed ? "sealed=" : "depth=", w.is_sealed ? w.sealed : w.depth);
+        line(w.found ? "sealed=" : "depth=", w.found ? w.sealed : w.depth);
     }
     if (!given_back()) {
         puts("guards=broken");
@@ -607,7 +607,7 @@ static int ticks(void) {
         double x;
         memcpy(&x, &bits, sizeof x);
         test_tick t = quetz_test_tick(x);
-        if (t.is_whole) {
+        if (t.whole) {
             printf("%" PRId64 "\n", t.value);
         } else {
             puts("none");

@@ -133,19 +133,19 @@ pub roomy-is : (g : Sides) (ls room : List ℕ) (n : ℕ) → Fit g → n ≡ ce
 roomy-is g ls room n z e l w = record { fit = z; sized = l ∙ e; long = omega arith }
 
 module _ (g : Sides) (ls room left : List ℕ) (w : Walked) (z : Measured g ls room left w) where
-  pub walked-sealed : (c : ℕ) → w .sealed ≡ At c → WalkOf g ls (record { fits = 1; depth = w .depth; is_sealed = 1; sealed = c })
+  pub walked-sealed : (c : ℕ) → w .sealed ≡ At c → WalkOf g ls (record { fits = 1; depth = w .depth; found = 1; sealed = c })
   unfolding sealedAs
   walked-sealed c e = record { depth = λ q. z .depth-is; sealed = λ q. rw (← z .sealed-is, e) (refl, refl) }
 
-  pub walked-open : w .sealed ≡ Nowhere → WalkOf g ls (record { fits = 1; depth = w .depth; is_sealed = 0; sealed = 0 })
+  pub walked-open : w .sealed ≡ Nowhere → WalkOf g ls (record { fits = 1; depth = w .depth; found = 0; sealed = 0 })
   unfolding sealedAs
   walked-open e = record { depth = λ q. z .depth-is; sealed = λ q. rw (← z .sealed-is, e) refl }
 
-pub tick-whole : (x : Float) (t : Tick) (z : ℤ) → t ≡ tick x → t ≡ Whole z → TickOf x (record { is_whole = 1; value = z })
+pub tick-whole : (x : Float) (t : Tick) (z : ℤ) → t ≡ tick x → t ≡ Whole z → TickOf x (record { whole = 1; value = z })
 unfolding tickAs
 tick-whole x t z e q = record { is = rw (← e, q) (refl, refl) }
 
-pub tick-none : (x : Float) (t : Tick) → t ≡ tick x → t ≡ Refused → TickOf x (record { is_whole = 0; value = pos 0 })
+pub tick-none : (x : Float) (t : Tick) → t ≡ tick x → t ≡ Refused → TickOf x (record { whole = 0; value = pos 0 })
 unfolding tickAs
 tick-none x t e q = record { is = rw (← e, q) refl }
 

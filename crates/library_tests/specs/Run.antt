@@ -47,7 +47,7 @@ sealedAs Nowhere is place = is ≡ 0
 -- THE PROMISE of quetz_test_walk: where the cast fits, depth and the first sealed cell are document 01's
 pub record WalkOf (g : Sides) (ls : List ℕ) (r : Walk) : Type 0 where
   pub depth : r .fits ≡ 1 → r .depth ≡ Cast.depth g ls
-  pub sealed : r .fits ≡ 1 → sealedAs (sealed g ls) (r .is_sealed) (r .sealed)
+  pub sealed : r .fits ≡ 1 → sealedAs (sealed g ls) (r .found) (r .sealed)
 
 -- a tick as two numbers
 unfoldable pub tickAs : Tick → ℕ → ℤ → Type 0
@@ -56,7 +56,7 @@ tickAs Refused is value = is ≡ 0
 
 -- THE PROMISE of quetz_test_tick
 pub record TickOf (x : Float) (r : Ticked) : Type 0 where
-  pub is : tickAs (tick x) (r .is_whole) (r .value)
+  pub is : tickAs (tick x) (r .whole) (r .value)
 
 -- THE PROMISE of quetz_test_old_labels: where the output is long enough, the label part stands at its front, and its length comes back
 abbrev pub labelPart : Settings → List ℕ → ℕ → List ℕ

@@ -4,6 +4,7 @@ ghost use Prim.Native.Nat.{_-_};
 ghost use lib.ListN.{length};
 ghost use Rattle.method.specs.Cast.{cells};
 ghost use Rattle.method.specs.Cycle.{cycle};
+ghost use Rattle.theory.proofs.Sides.{Fit};
 ghost use Rattle.levels.specs.Levels.{base};
 ghost use Rattle.smooth.specs.Fields.{u-of, b-of};
 ghost use Rattle.cycle.specs.Strokes.{Ended};
@@ -23,14 +24,14 @@ use method::Tick;
 pub struct Walk {
     pub fits: u32,
     pub depth: u32,
-    pub is_sealed: u32,
+    pub found: u32,
     pub sealed: u32,
 }
 
 // A binary64 as a whole tick, if it is one.
 #[repr(C)]
 pub struct Ticked {
-    pub is_whole: u32,
+    pub whole: u32,
     pub value: i64,
 }
 
@@ -76,9 +77,8 @@ fn run(
     cycles(room, bytes, words, l, s, count, times);
 }
 
-// u from b by the cycle of so many levels, run so many times, on a room that starts with u and b: 1; or 0 where something does not fit.
-#[no_mangle]
-pub extern "C" fn quetz_test_cycle(
+// u from b by the cycle of so many levels, where these and the lengths fit.
+fn fitted_cycle(
     sides: Sides,
     levels: u32,
     times: u32,
@@ -87,11 +87,9 @@ pub extern "C" fn quetz_test_cycle(
     floats: &mut [f64],
     words: &mut [u32],
 ) -> u32
+    requires { ⌜ Fit sides ⌝ }
     ensures { λ r. ⌜ CycleOf sides levels (now (labels .entry)) (now (floats .entry)) r (now (floats .exit)) ⌝ }
 {
-    if !sides_fit(sides) {
-        return 0;
-    }
     let n = cell_count(sides);
     if levels < 1 {
         return 0;
@@ -123,6 +121,25 @@ pub extern "C" fn quetz_test_cycle(
     1
 }
 
+// u from b by the cycle of so many levels, run so many times, on a room that starts with u and b: 1; or 0 where something does not fit.
+#[no_mangle]
+pub extern "C" fn quetz_test_cycle(
+    sides: Sides,
+    levels: u32,
+    times: u32,
+    labels: &[u8],
+    bytes: &mut [u8],
+    floats: &mut [f64],
+    words: &mut [u32],
+) -> u32
+    ensures { λ r. ⌜ CycleOf sides levels (now (labels .entry)) (now (floats .entry)) r (now (floats .exit)) ⌝ }
+{
+    if sides_fit(sides) {
+        return fitted_cycle(sides, levels, times, labels, bytes, floats, words);
+    }
+    0
+}
+
 // Nothing was walked.
 fn unfit() -> Walk
     ensures { λ r. ⌜ r .fits ≡ 0 ⌝ }
@@ -130,19 +147,16 @@ fn unfit() -> Walk
     Walk {
         fits: 0,
         depth: 0,
-        is_sealed: 0,
+        found: 0,
         sealed: 0,
     }
 }
 
-// Depth, and the first sealed cell, of a cast.
-#[no_mangle]
-pub extern "C" fn quetz_test_walk(sides: Sides, labels: &[u8], words: &mut [u32]) -> Walk
+// Depth, and the first sealed cell, where the lengths fit.
+fn fitted_walk(sides: Sides, labels: &[u8], words: &mut [u32]) -> Walk
+    requires { ⌜ Fit sides ⌝ }
     ensures { λ r. ⌜ WalkOf sides (now (labels .entry)) r ⌝ }
 {
-    if !sides_fit(sides) {
-        return unfit();
-    }
     let n = cell_count(sides);
     if labels.len() != n {
         return unfit();
@@ -156,16 +170,27 @@ pub extern "C" fn quetz_test_walk(sides: Sides, labels: &[u8], words: &mut [u32]
         Found::At(c) => Walk {
             fits: 1,
             depth: w.depth,
-            is_sealed: 1,
+            found: 1,
             sealed: c,
         },
         Found::Nowhere => Walk {
             fits: 1,
             depth: w.depth,
-            is_sealed: 0,
+            found: 0,
             sealed: 0,
         },
     }
+}
+
+// Depth, and the first sealed cell, of a cast.
+#[no_mangle]
+pub extern "C" fn quetz_test_walk(sides: Sides, labels: &[u8], words: &mut [u32]) -> Walk
+    ensures { λ r. ⌜ WalkOf sides (now (labels .entry)) r ⌝ }
+{
+    if sides_fit(sides) {
+        return fitted_walk(sides, labels, words);
+    }
+    unfit()
 }
 
 // The whole tick that a binary64 rounds to.
@@ -174,14 +199,8 @@ pub extern "C" fn quetz_test_tick(x: f64) -> Ticked
     ensures { λ r. ⌜ TickOf x r ⌝ }
 {
     match ticks::tick::to_tick(x) {
-        Tick::Whole(z) => Ticked {
-            is_whole: 1,
-            value: z,
-        },
-        Tick::Refused => Ticked {
-            is_whole: 0,
-            value: 0,
-        },
+        Tick::Whole(z) => Ticked { whole: 1, value: z },
+        Tick::Refused => Ticked { whole: 0, value: 0 },
     }
 }
 

@@ -22,9 +22,14 @@ record Told (A : Type 0) (a b : A) (x y : List ℕ) : Type 0 where
   same : a ≡ b
   rest : x ≡ y
 
+-- a number's digits end at the LF
+ends-there : (n : ℕ) (x : List ℕ) → digits (decimal n ++ (10 ∷ x)) ≡ decimal n
+unfolding isDigit between
+ends-there n x = decimal-stop n 10 x refl
+
 number-told : (n m : ℕ) (x y : List ℕ) → decimal n ++ (10 ∷ x) ≡ decimal m ++ (10 ∷ y) → Told ℕ n m x y
 number-told n m x y e =
-    let d : decimal n ≡ decimal m = sym (decimal-stop n x) ∙ ap digits e ∙ decimal-stop m y in
+    let d : decimal n ≡ decimal m = sym (ends-there n x) ∙ ap digits e ∙ ends-there m y in
     record {
       same = sym (value-decimal n) ∙ ap (valueOf 0) d ∙ value-decimal m;
       rest = ap (drop 1) (cancel (decimal m) (10 ∷ x) (10 ∷ y) (ap (λ ds. ds ++ (10 ∷ x)) (sym d) ∙ e));
@@ -66,7 +71,7 @@ answer-told a b x y e =
 not-minus : (n : ℕ) (x y : List ℕ) → decimal n ++ (10 ∷ x) ≡ 45 ∷ y → ⊥
 unfolding digits isDigit between valueOf decimal spelled lastDigit
 not-minus n x y e =
-    let d : decimal n ≡ [] = sym (decimal-stop n x) ∙ ap digits e in
+    let d : decimal n ≡ [] = sym (ends-there n x) ∙ ap digits e in
     let z : n ≡ 0 = sym (value-decimal n) ∙ ap (valueOf 0) d in
     let l : length (decimal 0) ≡ 0 = ap (λ k. length (decimal k)) (sym z) ∙ ap length d in
     omega (arith, l)
