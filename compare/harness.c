@@ -9,6 +9,8 @@
  *     harness layout      sizes and offsets of the interface's structs, as the compiler sees them and as a call fills them
  *
  * Everything lent stands in a heap block of its own, with a guard before and behind it, full of a pattern before the call; with
+ * QUETZ_BREAK set to bytes, floats, words or guard the harness spoils after each solve what a library that clears one element less, or
+ * writes one byte too far, would leave: every session must then be reported as `rooms=broken`. With
  * QUETZ_EXACT set a block has no guard and just the size of what is lent, so that valgrind sees the first byte beyond it. */
 #include <inttypes.h>
 #include <stdbool.h>
@@ -140,6 +142,23 @@ static bool rooms_kept(quetz_answer a, size_t n, rooms r) {
     return true;
 }
 
+/* What a broken library would leave: the last element that should be zero still has its pattern, or a guard is overwritten. */
+static void spoil(quetz_answer a, size_t n, rooms r) {
+    const char *what = getenv("QUETZ_BREAK");
+    if (what == NULL || !(a.number == 0 || (7 <= a.number && a.number <= 9))) {
+        return;
+    }
+    if (strcmp(what, "bytes") == 0) {
+        r.bytes[2 * n + 15] = BYTE_PATTERN;
+    } else if (strcmp(what, "floats") == 0) {
+        r.floats[8 * n + 63] = FLOAT_PATTERN;
+    } else if (strcmp(what, "words") == 0) {
+        r.words[2 * n - 1] = WORD_PATTERN;
+    } else if (strcmp(what, "guard") == 0) {
+        r.bytes[r.bytes_length] = 0;
+    }
+}
+
 static void kept_line(bool kept) {
     bool guards = given_back();
     puts(kept && guards ? "rooms=kept" : "rooms=broken");
@@ -231,6 +250,7 @@ static void replay_session(const uint8_t *session, size_t length) {
         a = quetz_solve((quetz_task){s.sides, s.settings}, labels, n, own, n, r.pressures, n, r.bytes, r.bytes_length, r.floats, r.floats_length, r.words, r.words_length);
     }
     answer_lines(a);
+    spoil(a, n, r);
     bool kept = rooms_kept(a, n, r);
     for (size_t i = 0; i < n; i++) {
         kept = kept && pressure_kept(a, labels[i], own[i], r.pressures[i]);

@@ -159,6 +159,16 @@ def threads_differ(compiler, folder, runs):
     return programs.run(runs + [os.path.join(folder, "threads")], b"") != "agree\n"
 
 
+def broken_rooms_missed():
+    """The rooms spoilt as a library that clears one element less, or writes one byte too far, would leave them: each must be reported."""
+    session = generate.framed(generate.session_bytes(3, 1, 1, "big", 0, 1, 5, [1, 0, 1], [10, 0, 20]))
+    for what in ("bytes", "floats", "words", "guard"):
+        done = subprocess.run(programs.harness("replay"), input=session, stdout=subprocess.PIPE, env=dict(os.environ, QUETZ_BREAK=what), check=True)
+        if not done.stdout.endswith(b"rooms=broken\n"):
+            return what
+    return None
+
+
 def valgrind_line(program):
     """Some hundred sessions and all fixed direct calls with exactly sized heap blocks, under valgrind; None where it finds an error or a print differs."""
     if programs.emulated() or shutil.which("valgrind") is None:
@@ -193,10 +203,13 @@ def main():
             return failed(f"{differs} prints something else")
         if threads_differ(compiler, folder, runs):
             return failed("threads at once do not give what one alone gives")
+    missed = broken_rooms_missed()
+    if missed:
+        return failed(f"a room whose {missed} were spoilt is not reported")
     line = valgrind_line(options.program)
     if line is None:
         return 1
-    print(f"library: header as C17 and C++17, layout, examples in C and Python, four threads at once on 64 KiB of stack each; {line}")
+    print(f"library: header as C17 and C++17, layout, examples in C and Python, four threads at once on 64 KiB of stack each, four kinds of broken rooms reported; {line}")
     return 0
 
 
