@@ -9,10 +9,10 @@ use Rattle.levels.proofs.band.in_band.Statement.{statement}
 use Rattle.levels.proofs.band.in_band.Tie as tie
 
 abbrev Inv-loop : tie.InvT-loop
-Inv-loop labels g h n m c s found₀ q d k t₀ found t = (t ≤ 8) × (found ≡ false) × None (childOther labels g k) t
+Inv-loop labels g h n m c s found₀ q k first t₀ found t = (t ≤ 8) × (found ≡ false) × None (childOther labels g k) t
 
 abbrev μ-loop : tie.MeasureT-loop
-μ-loop labels g h n m c s found₀ q d k t₀ found t = 8 - t
+μ-loop labels g h n m c s found₀ q k first t₀ found t = 8 - t
 
 abbrev Inv-coarse : tie.InvT-coarse
 Inv-coarse labels g h n m c s found₀ q₀ found q = (q ≤ 8) × (found ≡ false) × None (parentOther labels g h s) q
@@ -32,11 +32,14 @@ spot-of-requires c κs = search hits
 coarse-holds : tie.Need-coarse-holds Inv-loop μ-loop Inv-coarse μ-coarse
 coarse-holds c = search hits
 
-parent-requires : tie.Need-parent-requires Inv-loop μ-loop Inv-coarse μ-coarse
-parent-requires c κs = search hits
+is-outside-requires : tie.Need-is-outside-requires Inv-loop μ-loop Inv-coarse μ-coarse
+is-outside-requires c κs = search hits
 
-spot-of-requires-2 : tie.Need-spot-of-requires-2 Inv-loop μ-loop Inv-coarse μ-coarse
-spot-of-requires-2 c κs = search hits
+parent-spot-requires : tie.Need-parent-spot-requires Inv-loop μ-loop Inv-coarse μ-coarse
+parent-spot-requires c κs = search hits
+
+first-child-requires : tie.Need-first-child-requires Inv-loop μ-loop Inv-coarse μ-coarse
+first-child-requires c κs = search hits
 
 loop-holds : tie.Need-loop-holds Inv-loop μ-loop Inv-coarse μ-coarse
 loop-holds c = search hits
@@ -83,8 +86,9 @@ in-band-spec =
     returns
     spot-of-requires
     coarse-holds
-    parent-requires
-    spot-of-requires-2
+    is-outside-requires
+    parent-spot-requires
+    first-child-requires
     loop-holds
     is-other-requires
     add-t

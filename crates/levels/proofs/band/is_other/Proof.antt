@@ -3,8 +3,8 @@ use Rattle.levels.proofs.Hits.{hits}
 use Rattle.levels.proofs.band.is_other.Statement.{statement}
 use Rattle.levels.proofs.band.is_other.Tie as tie
 
-child-requires : tie.Need-child-requires
-child-requires c κs = search hits
+child-from-requires : tie.Need-child-from-requires
+child-from-requires c κs = search hits
 
 label-at-requires : tie.Need-label-at-requires
 label-at-requires c κs = search hits
@@ -13,4 +13,4 @@ returns : tie.Need-returns
 returns c = search hits
 
 pub is-other-spec : {M : Type 1} → statement M
-is-other-spec = tie.close (tie.spec child-requires label-at-requires returns)
+is-other-spec = tie.close (tie.spec child-from-requires label-at-requires returns)
