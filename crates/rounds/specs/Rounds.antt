@@ -15,7 +15,7 @@ use Rattle.method.specs.Levels.{value, inAir}
 use Rattle.method.specs.Cycle.{applied, cycle}
 use Rattle.method.specs.Rounds.{State, End, solved, failed, dot, betaOf, direction, scalars, rounded, run, start}
 use Rattle.theory.specs.Quiet.{Quiet}
-use Rattle.theory.proofs.Sides.{Fit}
+use Rattle.theory.specs.Sides.{Fit}
 use Rattle.levels.specs.Levels.{base}
 use Rattle.levels.specs.AllLists.{baseLabels}
 use Rattle.cycle.specs.Rooms as Rooms

@@ -17,7 +17,8 @@ use Rattle.method.specs.declared.Found.the-variants.{Nowhere, At}
 use Rattle.method.specs.Cast.{cells, sidesFit, settingsFit, interior}
 use Rattle.method.specs.Answers.{verdict, fault, byteNeed, floatNeed, wordNeed}
 use Rattle.method.specs.Calls.{Asked, lengthsFit, checksBefore7}
-use Rattle.theory.proofs.Sides.{Fit, fit}
+use Rattle.theory.specs.Sides.{Fit}
+use Rattle.theory.proofs.Sides.{fit}
 use Rattle.checks.specs.declared.Ruling.{Ruling}
 use Rattle.checks.specs.declared.Ruling.the-variants.{Refused, Allowed}
 use Rattle.checks.specs.Rulings.{rulingOf, rulingBy, firstOf}

@@ -18,7 +18,7 @@ use Rattle.method.specs.Answers.{check, Verdict, passed, refused, verdict, refu
 use Rattle.method.specs.Rounds.{End, solved, failed, rounded, start, ending}
 use Rattle.method.specs.Rounds as Rounds
 use Rattle.method.specs.Calls.{Asked, Solved, checksFrom7, handedBack, ended}
-use Rattle.theory.proofs.Sides.{Fit}
+use Rattle.theory.specs.Sides.{Fit}
 use Rattle.walks.specs.Search.{Roomy}
 use Rattle.trial.specs.Trial as Trial
 use Rattle.levels.proofs.Calls.{words-enough}

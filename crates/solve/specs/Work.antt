@@ -15,7 +15,7 @@ use Rattle.method.specs.Rounds as Rounds
 use Rattle.method.specs.Calls.{Asked, Solved, checksFrom7, handedBack, ended}
 use Rattle.theory.specs.Walks.{Walk}
 use Rattle.theory.specs.Levels.{airBefore}
-use Rattle.theory.proofs.Sides.{Fit}
+use Rattle.theory.specs.Sides.{Fit}
 use Rattle.cycle.specs.Rooms.{Prepared}
 use Rattle.rounds.specs.declared.Plan.{Plan}
 use Rattle.rounds.specs.Rounds.{planSides, planLabels, Ready}
