@@ -17,10 +17,10 @@ use Rattle.method.specs.Form.{orderOf}
 use Rattle.method.specs.Answers.{byteNeed, floatNeed, wordNeed, refusal}
 use Rattle.theory.specs.Sides.{Fit}
 use Rattle.theory.proofs.Sides.{fit}
-use Rattle.session.specs.Reads.{ReadOf}
-use Rattle.session.specs.Writes.{WriteOf}
-use Rattle.session.specs.declared.Session.{Session}
-use Rattle.session.specs.declared.Written.{Written}
+use Rattle.session_read.specs.Reads.{ReadOf}
+use Rattle.session_write.specs.Writes.{WriteOf}
+use Rattle.session_read.specs.declared.Session.{Session}
+use Rattle.session_write.specs.declared.Written.{Written}
 use Rattle.quetzalcup.specs.declared.Read.{Read}
 use Rattle.quetzalcup.specs.Face.{needBy, orderNumber, unordered, writtenBy, ReadBack, WrittenBy}
 

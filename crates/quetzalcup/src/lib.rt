@@ -14,7 +14,7 @@ use method::Settings;
 use method::Sides;
 use old_read::OldSession;
 use old_write::OldWritten;
-use session::Written;
+use session_write::Written;
 
 // What is to be solved or written, beside the cells.
 #[repr(C)]
@@ -86,7 +86,7 @@ pub extern "C" fn quetz_solve(
 pub extern "C" fn quetz_read(bytes: &[u8], values: &mut [i32]) -> Read
     ensures { λ r. ⌜ ReadBack (now (bytes .entry)) (now (values .entry)) r (now (values .exit)) ⌝ }
 {
-    let read = session::read(bytes, values);
+    let read = session_read::read(bytes, values);
     let answer = read.answer;
     let sides = read.sides;
     let order = read.order;
@@ -117,7 +117,7 @@ pub extern "C" fn quetz_write(
         let answer = unordered_answer(sides);
         return Written { answer, count: 0 };
     }
-    session::write(
+    session_write::write(
         sides,
         header::order_of(order),
         settings,
