@@ -14,6 +14,9 @@ use method::Settings;
 use method::Sides;
 use old_read::OldSession;
 use old_write::OldWritten;
+use rooms::byte_need;
+use rooms::float_need;
+use rooms::word_need;
 use session_write::Written;
 
 // What is to be solved or written, beside the cells.
@@ -155,7 +158,7 @@ pub extern "C" fn quetz_byte_need(sides: Sides) -> usize
     ensures { λ r. ⌜ r ≡ needBy byteNeed sides ⌝ }
 {
     if sides_fit(sides) {
-        2 * cell_count(sides) + 16
+        byte_need(cell_count(sides))
     } else {
         0
     }
@@ -166,7 +169,7 @@ pub extern "C" fn quetz_float_need(sides: Sides) -> usize
     ensures { λ r. ⌜ r ≡ needBy floatNeed sides ⌝ }
 {
     if sides_fit(sides) {
-        8 * cell_count(sides) + 64
+        float_need(cell_count(sides))
     } else {
         0
     }
@@ -177,7 +180,7 @@ pub extern "C" fn quetz_word_need(sides: Sides) -> usize
     ensures { λ r. ⌜ r ≡ needBy wordNeed sides ⌝ }
 {
     if sides_fit(sides) {
-        2 * cell_count(sides)
+        word_need(cell_count(sides))
     } else {
         0
     }
