@@ -10,11 +10,11 @@ use Rattle.rounds.proofs.rounds.Statement.{statement}
 use Rattle.rounds.proofs.rounds.Tie as tie
 
 abbrev Inv-loop : tie.InvT-loop
-Inv-loop room₀ bytes words plan labels values settings g interior depth done₀ rho₀ room done rho =
-    (done ≤ settings .rounds) × ((length room ≡ length room₀) × (Calm g labels room × Left g labels values settings interior depth room₀ done rho room))
+Inv-loop room₀ bytes words plan labels values settings g done₀ rho₀ room done rho =
+    (done ≤ settings .rounds) × ((length room ≡ length room₀) × (Calm g labels room × Left g labels values settings room₀ done rho room))
 
 abbrev μ-loop : tie.MeasureT-loop
-μ-loop room₀ bytes words plan labels values settings g interior depth done₀ rho₀ room done rho = settings .rounds - done
+μ-loop room₀ bytes words plan labels values settings g done₀ rho₀ room done rho = settings .rounds - done
 
 loop-holds : tie.Need-loop-holds Inv-loop μ-loop
 unfolding lib.Ieee.ofBits
@@ -25,9 +25,6 @@ test-x-requires c κs = search budget
 
 enum-known-worst : tie.Need-enum-known-worst Inv-loop μ-loop
 enum-known-worst c = search budget
-
-ended-requires : tie.Need-ended-requires Inv-loop μ-loop
-ended-requires c κs = search budget
 
 same-length : tie.Need-same-length Inv-loop μ-loop
 same-length c = search budget
@@ -46,9 +43,6 @@ step-of-requires c κs = search budget
 
 enum-told-2 : tie.Need-enum-told-2 Inv-loop μ-loop
 enum-told-2 c = search budget
-
-ended-requires-2 : tie.Need-ended-requires-2 Inv-loop μ-loop
-ended-requires-2 c κs = search budget
 
 same-length-2 : tie.Need-same-length-2 Inv-loop μ-loop
 same-length-2 c =
@@ -101,14 +95,8 @@ test-x-requires-2 c κs = search budget
 enum-known-worst-2 : tie.Need-enum-known-worst-2 Inv-loop μ-loop
 enum-known-worst-2 c = search budget
 
-ended-requires-3 : tie.Need-ended-requires-3 Inv-loop μ-loop
-ended-requires-3 c κs = search budget
-
 enum-told-3 : tie.Need-enum-told-3 Inv-loop μ-loop
 enum-told-3 c = search budget
-
-ended-requires-4 : tie.Need-ended-requires-4 Inv-loop μ-loop
-ended-requires-4 c κs = search budget
 
 same-length-3 : tie.Need-same-length-3 Inv-loop μ-loop
 same-length-3 c = search budget
@@ -131,14 +119,12 @@ rounds-spec =
     loop-holds
     test-x-requires
     enum-known-worst
-    ended-requires
     same-length
     returns
     enum-told
     scalars-of-requires
     step-of-requires
     enum-told-2
-    ended-requires-2
     same-length-2
     returns-2
     enum-known-alpha
@@ -148,9 +134,7 @@ rounds-spec =
     loop-again
     test-x-requires-2
     enum-known-worst-2
-    ended-requires-3
     enum-told-3
-    ended-requires-4
     same-length-3
     returns-3
     same-length-4

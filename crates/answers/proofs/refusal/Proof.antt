@@ -1,8 +1,8 @@
--- `checks::rule::refusal` meets its contract. Assumes nothing.
+-- `answers::refusal` meets its contract. Assumes nothing.
 use borrow.Author.Needs.{needs}
 use Rattle.method.specs.Answers.{refusal}
-use Rattle.checks.proofs.rule.refusal.Statement.{statement}
-use Rattle.checks.proofs.rule.refusal.Tie as tie
+use Rattle.answers.proofs.refusal.Statement.{statement}
+use Rattle.answers.proofs.refusal.Tie as tie
 
 returns : tie.Need-returns
 unfolding refusal
