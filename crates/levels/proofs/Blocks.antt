@@ -12,7 +12,7 @@ use mir.Val.{Fits}
 use Rattle.laws.proofs.Bools.{so}
 use Rattle.method.specs.declared.Sides.{Sides}
 use Rattle.method.specs.Cast.{cells, number}
-use Rattle.theory.proofs.Sides.{Fit}
+use Rattle.theory.specs.Sides.{Fit}
 use Rattle.theory.proofs.Numbers.{number-coordinates}
 use Rattle.grid.specs.declared.place.Spot.{Spot}
 use Rattle.grid.specs.Place.{SpotOf, inBox, placeAt}

@@ -6,7 +6,7 @@ use mathlib.Core.List.{List}
 use Rattle.method.specs.declared.Sides.{Sides}
 use Rattle.method.specs.Cast.{cells, isAir}
 use Rattle.method.specs.Levels.{halved, hasOther}
-use Rattle.theory.proofs.Sides.{Fit}
+use Rattle.theory.specs.Sides.{Fit}
 use Rattle.grid.specs.declared.place.Spot.{Spot}
 use Rattle.levels.specs.Kin.{childAt, parentAt}
 

@@ -4,7 +4,7 @@ ghost use Prim.Native.Nat.{_≤_, _<_};
 ghost use lib.Dec.{leb};
 ghost use Rattle.method.specs.Cast.{cells};
 ghost use Rattle.method.specs.Levels.{inBand};
-ghost use Rattle.theory.proofs.Sides.{Fit};
+ghost use Rattle.theory.specs.Sides.{Fit};
 ghost use Rattle.levels.specs.Kin.{Near, Begun, childAt, parentAt, parentSpot, firstChild, childStep};
 ghost use Rattle.levels.specs.Other.{BandAsked, childOther};
 use grid::place::Spot;

@@ -19,7 +19,8 @@ use Rattle.method.specs.Cycle.{cycle}
 use Rattle.method.specs.Rounds.{tick}
 use Rattle.method.specs.Answers.{byteNeed}
 use Rattle.theory.specs.Levels.{sidesAt, labelsAt, cellsBefore, airBefore}
-use Rattle.theory.proofs.Sides.{Fit, fit, fits}
+use Rattle.theory.specs.Sides.{Fit}
+use Rattle.theory.proofs.Sides.{fit, fits}
 use Rattle.theory.proofs.Sizes.{cells-of-six}
 use Rattle.theory.proofs.Counting.{counted-le}
 use Rattle.levels.specs.declared.sides.Levels.{Levels}

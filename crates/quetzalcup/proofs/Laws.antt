@@ -15,7 +15,8 @@ use Rattle.method.specs.declared.Answer.{Answer}
 use Rattle.method.specs.Cast.{cells, sidesFit}
 use Rattle.method.specs.Form.{orderOf}
 use Rattle.method.specs.Answers.{byteNeed, floatNeed, wordNeed, refusal}
-use Rattle.theory.proofs.Sides.{Fit, fit}
+use Rattle.theory.specs.Sides.{Fit}
+use Rattle.theory.proofs.Sides.{fit}
 use Rattle.session.specs.Reads.{ReadOf}
 use Rattle.session.specs.Writes.{WriteOf}
 use Rattle.session.specs.declared.Session.{Session}

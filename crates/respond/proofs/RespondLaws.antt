@@ -22,7 +22,8 @@ use Rattle.method.specs.Answers.{passed, verdict, refusal, done, filled, byteNe
 use Rattle.method.specs.Calls.{Asked, Reading, lengthsFit, lineCheck, sideCheck, bodyCheck, roomCheck, contentChecks, readerChecks, notRead, isRead, reading, solving}
 use Rattle.method.specs.Program.{programChecks, print, shown, printed}
 use Rattle.method.specs.Program as program
-use Rattle.theory.proofs.Sides.{Fit, fit}
+use Rattle.theory.specs.Sides.{Fit}
+use Rattle.theory.proofs.Sides.{fit}
 use Rattle.theory.proofs.Verdicts.{Judged, fine, faulty, judge, AllPass, all-pass, no-fault, no-fault′}
 use Rattle.theory.proofs.RoundTrip.{read-0}
 use Rattle.header.specs.Lines.{HeaderOf, headerIn}

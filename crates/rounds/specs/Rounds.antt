@@ -16,7 +16,7 @@ use Rattle.method.specs.Rounds.{State, dot, betaOf, direction, scalars, rounded
 use Rattle.theory.specs.Quiet.{Quiet}
 use Rattle.answers.specs.declared.Ended.{Ended}
 use Rattle.answers.specs.Ends.{endOf}
-use Rattle.theory.proofs.Sides.{Fit}
+use Rattle.theory.specs.Sides.{Fit}
 use Rattle.levels.specs.Levels.{base}
 use Rattle.levels.specs.AllLists.{baseLabels}
 use Rattle.cycle.specs.Rooms as Rooms

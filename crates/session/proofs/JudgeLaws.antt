@@ -22,7 +22,8 @@ use Rattle.header.specs.Lines.{named, HeaderOf, headerIn, wrongIn, startIn}
 use Rattle.checks.specs.Faults.{badLabelAt}
 use Rattle.words.specs.Body.{valueIn, badValueIn}
 use Rattle.theory.proofs.Firsts.{first-cong}
-use Rattle.theory.proofs.Sides.{Fit, fit}
+use Rattle.theory.specs.Sides.{Fit}
+use Rattle.theory.proofs.Sides.{fit}
 use Rattle.session.specs.Reads.{asked, verdictOf, Sized, Bodied, sizeRuling, bodyRuling, contentRuling, ReadyIf, JudgedOf}
 use Rattle.checks.specs.Rulings.{rulingOf, rulingBy, firstOf}
 use Rattle.checks.specs.declared.Ruling.{Ruling}

@@ -19,7 +19,8 @@ use Rattle.method.specs.Answers.{fault, passed, refused, verdict, refusal, done
 use Rattle.method.specs.Calls.{Reading, lineCheck, sideCheck, bodyCheck, roomCheck, contentChecks, readerChecks, notRead, isRead, readingBy, reading}
 use Rattle.words.specs.Body.{valueIn}
 use Rattle.theory.specs.Sessions.{Bytes}
-use Rattle.theory.proofs.Sides.{Fit, fit}
+use Rattle.theory.specs.Sides.{Fit}
+use Rattle.theory.proofs.Sides.{fit}
 use Rattle.session.specs.Reads.{FitIf, ReadOf, asked, takenOf, verdictOf, ReadyIf, JudgedOf}
 use Rattle.checks.proofs.RuleLaws.{verdict-agree}
 use Rattle.header.specs.declared.Header.{Header}

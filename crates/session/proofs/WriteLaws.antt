@@ -24,7 +24,8 @@ use Rattle.writes.specs.Lengths.{HeaderLength}
 use Rattle.session.specs.Writes.{offered, WriteOf, RoomIf, limitRuling, sliceRuling, RuledOf}
 use Rattle.checks.specs.declared.Ruling.{Ruling}
 use Rattle.checks.specs.declared.Ruling.the-variants.{Refused, Allowed}
-use Rattle.theory.proofs.Sides.{Fit, fit}
+use Rattle.theory.specs.Sides.{Fit}
+use Rattle.theory.proofs.Sides.{fit}
 use Rattle.checks.proofs.RuleLaws.{verdict-agree, ruling-none, ruling-more, last-ruling, first-assoc, both-allowed, ruled-none, fault-no, fault-yes}
 use Rattle.theory.proofs.Verdicts.{no-fault}
 use Rattle.checks.proofs.CheckLaws.{cells-ruled}

@@ -5,7 +5,7 @@ ghost use lib.Dec.{leb};
 ghost use lib.ListN.{length, replicate};
 ghost use Rattle.method.specs.Form.{headerWritten};
 ghost use Rattle.method.specs.Calls.{writerLengthsFit};
-ghost use Rattle.theory.proofs.Sides.{Fit};
+ghost use Rattle.theory.specs.Sides.{Fit};
 ghost use Rattle.session.specs.Writes.{RuledOf, limitRuling, offered, sliceRuling};
 use crate::content::judge_third;
 use crate::sizes::judge_first;

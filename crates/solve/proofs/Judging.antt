@@ -21,7 +21,8 @@ use Rattle.laws.proofs.Bools.{is-true}
 use Rattle.method.specs.Cast.{cells, isAir, judged, isAt, first, sidesFit, settingsFit, interior}
 use Rattle.method.specs.Answers.{verdict, fault, byteNeed, floatNeed, wordNeed}
 use Rattle.method.specs.Calls.{Asked, lengthsFit, checksBefore7}
-use Rattle.theory.proofs.Sides.{Fit, fit}
+use Rattle.theory.specs.Sides.{Fit}
+use Rattle.theory.proofs.Sides.{fit}
 use Rattle.theory.proofs.Counting.{some-counted}
 use Rattle.theory.proofs.Firsts.{FirstAt, Search, found, none, search-first, None, none-none, none-more, none-end, hit}
 use Rattle.checks.specs.declared.Ruling.{Ruling}

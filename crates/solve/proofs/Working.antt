@@ -17,7 +17,7 @@ use Rattle.method.specs.Cast.{Cast, cells, worst, interior, depth, sealed}
 use Rattle.method.specs.Answers.{check, Verdict, passed, refused, verdict, refusal, accepted, unfinished, byteNeed, floatNeed, wordNeed}
 use Rattle.method.specs.Rounds.{solved, failed, rounded, ending}
 use Rattle.method.specs.Calls.{Asked, Solved, checksFrom7, handedBack, answerOf, pressuresOf, ended}
-use Rattle.theory.proofs.Sides.{Fit}
+use Rattle.theory.specs.Sides.{Fit}
 use Rattle.theory.proofs.Worst.{end-worst}
 use Rattle.answers.specs.declared.Ended.{Ended}
 use Rattle.answers.specs.declared.Ended.the-variants.{Accepted, Unfinished}

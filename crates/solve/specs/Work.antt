@@ -14,7 +14,7 @@ use Rattle.method.specs.Rounds.{ending}
 use Rattle.method.specs.Calls.{Asked, Solved, checksFrom7, handedBack, answerOf, pressuresOf, ended}
 use Rattle.theory.specs.Walks.{Walk}
 use Rattle.theory.specs.Levels.{airBefore}
-use Rattle.theory.proofs.Sides.{Fit}
+use Rattle.theory.specs.Sides.{Fit}
 use Rattle.answers.specs.declared.Measured.{Measured}
 use Rattle.cycle.specs.Rooms.{Prepared}
 use Rattle.rounds.specs.declared.Plan.{Plan}

@@ -5,7 +5,7 @@ ghost use lib.ListN.{length};
 ghost use Rattle.method.specs.Cast.{cells, isAir, isAt, first};
 ghost use Rattle.method.specs.Answers.{verdict};
 ghost use Rattle.method.specs.Calls.{checksBefore7};
-ghost use Rattle.theory.proofs.Sides.{Fit};
+ghost use Rattle.theory.specs.Sides.{Fit};
 ghost use Rattle.checks.specs.Rulings.{rulingOf};
 ghost use Rattle.solve.specs.Solve.{asked, lengthsBy, contentRuling};
 use checks::Ruling;
