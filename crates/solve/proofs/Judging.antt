@@ -18,7 +18,7 @@ use Rattle.method.specs.declared.Found.{Found}
 use Rattle.method.specs.declared.Found.the-variants.{Nowhere, At}
 use Rattle.laws.specs.Loops.{up}
 use Rattle.laws.proofs.Bools.{is-true}
-use Rattle.method.specs.Cast.{cells, isAir, judged, isAt, first, sidesFit, settingsFit, interior}
+use Rattle.method.specs.Cast.{cells, labelAt, isAir, judged, isAt, first, sidesFit, settingsFit, interior}
 use Rattle.method.specs.Answers.{verdict, fault, byteNeed, floatNeed, wordNeed}
 use Rattle.method.specs.Calls.{Asked, lengthsFit, checksBefore7}
 use Rattle.theory.specs.Sides.{Fit}
@@ -64,6 +64,10 @@ pub ruleset lengths = (needs, labels-wrong, values-wrong, pressures-wrong, bytes
 
 -- ---- check 6: some cell is air
 module _ (ls : List ℕ) where
+  pub air-is : (c l : ℕ) → l ≡ labelAt ls c → eqb l 0 ≡ isAir ls c
+  unfolding isAir
+  air-is c l e = ap (λ m. eqb m 0) e
+
   pub air-found : (i n : ℕ) (r : Bool) → i < n → None (isAir ls) i → r ≡ isAir ls i → r ≡ true → true ≡ isAt (first (isAir ls) n)
   unfolding isAt
   air-found i n r h k e f = ap isAt (hit (isAir ls) i n r h k e f)

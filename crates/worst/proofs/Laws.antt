@@ -109,4 +109,5 @@ module _ {g : Sides} {ls : List ℕ} {vs : List ℤ} {x : List Float} {w : ℕ} 
   nothing-is f e h = let here : Nowhere ≡ first test (cells g) = sym h ∙ e in ap₂ pair (ap cell-in here) (ap value-in here)
 
 pub ruleset walking = (wholes, sized-is, not-air)
+
 pub ruleset searching = (needs, none-none, none-more, few, within, cell-hit, cell-none)

@@ -1,6 +1,6 @@
 -- `rounds::rounds` meets its contract: after so many rounds, as many are left as the limit allows. Assumes nothing.
 use Prim.Native.Nat.{_-_, _≤_}
-use mathlib.Core.Path.{_≡_, _∙_}
+use mathlib.Core.Path.{_≡_, refl, _∙_}
 use borrow.Author.Needs.{needs}
 use lib.ListN.{length}
 use Rattle.rounds.specs.Rounds.{Calm}
@@ -46,19 +46,18 @@ enum-told-2 c = search budget
 
 same-length-2 : tie.Need-same-length-2 Inv-loop μ-loop
 same-length-2 c =
-    let scaled = c .before .before .before .before .before .before in
+    let scaled = c .before .before .before .before .before in
     let loop = scaled .before .before .before .before .before .before .before .before in
     scaled .scalars-of .kept .0 ∙ loop .loop .inv .1 .0
 
 returns-2 : tie.Need-returns-2 Inv-loop μ-loop
 returns-2 c =
-    let told = c .before in
-    let stepped = c .before .before .before in
+    let stepped = c .before .before in
     let scaled = stepped .before .before .before in
     let tested = scaled .before .before .before .before in
     let loop = tested .before .before .before .before in
     let start = loop .before .before .before .before .before in
-    left-stall _ _ _ _ _ _ _ _ _ _ (loop .loop .inv .1 .1 .1) _ (tested .test-x .ensures) _ _ _ _ (start .pre .0) (tested .before .before .if1 .taken) (scaled .before .before .enum-told .given .1) _ _ (scaled .scalars-of .ensures) _ (stepped .step-of .ensures) _ _ (told .enum-told2 .given .1) (c .ended2 .ensures)
+    left-stall _ _ _ _ _ _ _ _ (loop .loop .inv .1 .1 .1) _ (tested .test-x .ensures) _ _ _ _ (start .pre .0) (tested .before .before .if1 .taken) (scaled .before .before .enum-told .given .1) _ _ (scaled .scalars-of .ensures) _ (stepped .step-of .ensures) _ _ (c .enum-told2 .given .1) refl
 
 enum-known-alpha : tie.Need-enum-known-alpha Inv-loop μ-loop
 enum-known-alpha c = search budget
@@ -87,7 +86,7 @@ loop-again c =
     let tested = scaled .before .before .before .before in
     let loop = tested .before .before .before .before in
     let start = loop .before .before .before .before .before in
-    (search needs, (moved .move-on .kept .0 ∙ scaled .scalars-of .kept .0 ∙ loop .loop .inv .1 .0, (advanced-calm (scaled-calm (scaled .scalars-of .ensures) (loop .loop .inv .1 .1 .0)) (moved .move-on .ensures), left-more _ _ _ _ _ _ _ _ _ _ (loop .loop .inv .1 .1 .1) _ (tested .test-x .ensures) _ _ _ _ (start .pre .0) (tested .before .before .if1 .taken) (scaled .before .before .enum-told .given .1) _ _ (scaled .scalars-of .ensures) _ (stepped .step-of .ensures) _ _ (known .before .alpha .given .1) (moved .move-on .ensures))))
+    (search needs, (moved .move-on .kept .0 ∙ scaled .scalars-of .kept .0 ∙ loop .loop .inv .1 .0, (advanced-calm (scaled-calm (scaled .scalars-of .ensures) (loop .loop .inv .1 .1 .0)) (moved .move-on .ensures), left-more _ _ _ _ _ _ _ _ (loop .loop .inv .1 .1 .1) _ (tested .test-x .ensures) _ _ _ _ (start .pre .0) (tested .before .before .if1 .taken) (scaled .before .before .enum-told .given .1) _ _ (scaled .scalars-of .ensures) _ (stepped .step-of .ensures) _ _ (known .before .alpha .given .1) (moved .move-on .ensures))))
 
 test-x-requires-2 : tie.Need-test-x-requires-2 Inv-loop μ-loop
 test-x-requires-2 c κs = search budget

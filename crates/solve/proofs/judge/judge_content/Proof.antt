@@ -40,7 +40,7 @@ returns c =
     let third = cells .before in
     let fault = third .before in
     let settings = fault .before in
-    let start = settings .before in
+    let start = settings .before .before in
     content-is _ _ _ _ _ _ _ _ _ _ _ _ _ _ (start .pre .1 .1 .1 .0) (start .pre .1 .0) (settings .settings-fit .ensures) (fault .fault-unless .ensures) (third .ruled .ensures)
     (cells .judge-cells .ensures) (air .has-air .ensures) (none .fault-unless2 .ensures) (sixth .ruled2 .ensures) (joined .earlier .ensures) (c .earlier2 .ensures)
 
