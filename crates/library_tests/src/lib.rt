@@ -100,7 +100,7 @@ fn fitted_cycle(
     if labels.len() != n {
         return 0;
     }
-    if bytes.len() < 2 * n + 16 {
+    if bytes.len() < rooms::byte_need(n) {
         return 0;
     }
     if words.len() < 2 * n + 5 {

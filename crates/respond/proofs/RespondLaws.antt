@@ -31,10 +31,10 @@ use Rattle.header.specs.declared.Header.{Header as Head}
 use Rattle.header.specs.declared.HeaderRead.{HeaderRead}
 use Rattle.header.specs.declared.HeaderRead.the-variants.{Wrong, Named}
 use Rattle.show.specs.Shows.{printRoom, PutShort}
-use Rattle.session.specs.Reads.{ReadOf}
-use Rattle.session.specs.Reads as reads
-use Rattle.session.specs.declared.Session.{Session}
-use Rattle.session.proofs.ReadLaws.{reading-refused, reading-passed}
+use Rattle.session_read.specs.Reads.{ReadOf}
+use Rattle.session_read.specs.Reads as reads
+use Rattle.session_read.specs.declared.Session.{Session}
+use Rattle.session_read.proofs.ReadLaws.{reading-refused, reading-passed}
 use Rattle.rounds.specs.Rounds.{castOf}
 use Rattle.solve.specs.Solve.{asked, SolveOf}
 use Rattle.prints.specs.Prints.{crowded}
