@@ -174,7 +174,7 @@ fn lower(room: &mut [f64], labels: &[u8], air: &[u32], below: &[u8], g: Sides, h
     ensures { λ _. ⌜ Lowered g h (now (labels .entry)) (now (room .entry)) (now (room .exit)) ⌝ }
 {
     residual(room, labels, air, g);
-    transfer::restriction::restrict(room, labels, below, g, h);
+    restriction::restrict(room, labels, below, g, h);
 }
 
 // The labels of level k.
@@ -258,5 +258,5 @@ fn coarse_correction(
     lower(room, labels, air, below, g, h);
     let start = 3 * labels.len();
     cycle(&mut room[start..], bytes, words, l, s, count, k + 1);
-    transfer::prolongation::correct(room, labels, below, g, h);
+    prolongation::correct(room, labels, below, g, h);
 }
