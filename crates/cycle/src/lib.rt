@@ -11,13 +11,13 @@ ghost use Rattle.method.specs.Cycle.{sweeps, zeros, jacobi, residue, coarsest, 
 ghost use Rattle.theory.specs.Quiet.{Quiet};
 ghost use Rattle.grid.specs.Entries.{cellsOf};
 ghost use Rattle.levels.specs.Levels.{base};
-ghost use Rattle.levels.specs.AllLists.{partIn};
+ghost use Rattle.bands.specs.AllLists.{partIn};
 ghost use Rattle.smooth.specs.Fields.{u-of, b-of, Level};
 ghost use Rattle.smooth.specs.Entries.{EntryLevel};
 ghost use Rattle.transfer.specs.Transfer.{TwoLevels};
 ghost use Rattle.cycle.specs.Strokes.{entriesWhere, AirList, Ended, sweepTurn, sweptRoom, coarsestTurn, Put, rising, Lowered};
 ghost use Rattle.cycle.specs.Rooms.{listFrom, airFrom, fieldsFrom, Ready, Cycled, Corrected, LabelsAt, ListAt, AirAt};
-use levels::lists::Lists;
+use bands::lists::Lists;
 use levels::sides::Levels;
 use method::Sides;
 

@@ -17,7 +17,7 @@ use Rattle.method.specs.Rounds.{State, End, solved, failed, dot, betaOf, direct
 use Rattle.theory.specs.Quiet.{Quiet}
 use Rattle.theory.proofs.Sides.{Fit}
 use Rattle.levels.specs.Levels.{base}
-use Rattle.levels.specs.AllLists.{baseLabels}
+use Rattle.bands.specs.AllLists.{baseLabels}
 use Rattle.cycle.specs.Rooms as Rooms
 use Rattle.rounds.specs.declared.Plan.{Plan}
 use Rattle.fields.specs.Fields.{x-of, p-of, z-of, r-of, t-of}

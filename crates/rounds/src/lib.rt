@@ -12,7 +12,7 @@ ghost use Rattle.theory.specs.Quiet.{Quiet};
 ghost use Rattle.fields.specs.Fields.{Held, x-of, t-of};
 ghost use Rattle.trial.specs.Trial.{tested};
 ghost use Rattle.rounds.specs.Rounds.{castOf, endedBy, Calm, Advanced, Ready, RunOf, EndOf};
-use levels::lists::Lists;
+use bands::lists::Lists;
 use levels::sides::Levels;
 use method::Answer;
 use method::Settings;

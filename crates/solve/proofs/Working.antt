@@ -21,7 +21,7 @@ use Rattle.method.specs.Calls.{Asked, Solved, checksFrom7, handedBack, ended}
 use Rattle.theory.proofs.Sides.{Fit}
 use Rattle.walks.specs.Search.{Roomy}
 use Rattle.trial.specs.Trial as Trial
-use Rattle.levels.proofs.Calls.{words-enough}
+use Rattle.bands.proofs.Calls.{words-enough}
 use Rattle.checks.proofs.RuleLaws.{fails-at, passes-on, ruling-none}
 use Rattle.rounds.specs.declared.Plan.{Plan}
 use Rattle.rounds.specs.Rounds.{castOf, planSides, Ready, endOf, EndOf}
