@@ -25,12 +25,13 @@ use Rattle.theory.proofs.Sizes.{cells-of-six}
 use Rattle.theory.proofs.Counting.{counted-le}
 use Rattle.grid.proofs.Steps.{cells-most}
 use Rattle.levels.specs.declared.sides.Levels.{Levels}
-use Rattle.levels.specs.declared.lists.Lists.{Lists}
+use Rattle.bands.specs.declared.lists.Lists.{Lists}
 use Rattle.levels.specs.Rooms.{written}
 use Rattle.levels.specs.Levels.{levelsOf, base}
 use Rattle.levels.specs.AllLabels.{LabelsAsked, allLabels}
-use Rattle.levels.specs.AllLists.{baseLabels, AllListed, ListsAsked}
-use Rattle.levels.proofs.Calls.{base-is, labels-asked, base-labels, lists-asked}
+use Rattle.bands.specs.AllLists.{baseLabels, AllListed, ListsAsked}
+use Rattle.levels.proofs.Calls.{base-is, labels-asked}
+use Rattle.bands.proofs.Calls.{base-labels, lists-asked}
 use Rattle.smooth.specs.Fields.{u-of, b-of}
 use Rattle.cycle.specs.Strokes.{Ended, Put}
 use Rattle.cycle.specs.Rooms.{Ready, cellsOf, cycleFrom, fieldsFrom, Cycled}

@@ -18,7 +18,7 @@ use Rattle.answers.specs.declared.Ended.{Ended}
 use Rattle.answers.specs.Ends.{endOf}
 use Rattle.theory.specs.Sides.{Fit}
 use Rattle.levels.specs.Levels.{base}
-use Rattle.levels.specs.AllLists.{baseLabels}
+use Rattle.bands.specs.AllLists.{baseLabels}
 use Rattle.cycle.specs.Rooms as Rooms
 use Rattle.rounds.specs.declared.Plan.{Plan}
 use Rattle.fields.specs.Fields.{x-of, p-of, z-of, r-of, t-of}

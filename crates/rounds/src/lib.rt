@@ -13,7 +13,7 @@ ghost use Rattle.fields.specs.Fields.{Held, x-of, t-of};
 ghost use Rattle.trial.specs.Trial.{tested};
 ghost use Rattle.rounds.specs.Rounds.{castOf, Calm, Advanced, Ready, RunOf, EndOf};
 use answers::Ended;
-use levels::lists::Lists;
+use bands::lists::Lists;
 use levels::sides::Levels;
 use method::Settings;
 use method::Sides;

@@ -27,7 +27,7 @@ use Rattle.answers.specs.Ends.{endOf}
 use Rattle.worst.specs.Worst.{Sought, worstOf}
 use Rattle.walks.specs.Search.{Roomy}
 use Rattle.trial.specs.Trial as Trial
-use Rattle.levels.proofs.Calls.{words-enough}
+use Rattle.bands.proofs.Calls.{words-enough}
 use Rattle.checks.proofs.RuleLaws.{fails-at, passes-on, ruling-none}
 use Rattle.rounds.specs.declared.Plan.{Plan}
 use Rattle.rounds.specs.Rounds.{castOf, planSides, Ready, EndOf}
