@@ -19,7 +19,7 @@ use Rattle.theory.proofs.Orders.{hits-append, hits-at}
 use Rattle.theory.proofs.Children.{band-air}
 use Rattle.theory.proofs.Waves.{chosen-hit, chosen-pass, waves-hit, waves-chosen}
 use Rattle.grid.specs.Entries.{entryOf, cellsOf}
-use Rattle.levels.specs.Lists.{smoothed, listOf, left, leftOf, airOf}
+use Rattle.bands.specs.Lists.{smoothed, listOf, left, leftOf, airOf}
 use Rattle.smooth.specs.Written.{Covers}
 use Rattle.smooth.specs.Entries.{AirEntries}
 use Rattle.smooth.proofs.EntryLaws.{cells-back, entries-are}

@@ -8,6 +8,9 @@ use borrow.Author.Needs.{needs}
 use lib.ListN.{length, set, length-set}
 use lib.IntN.{ℤ, pos}
 use lib.Ieee.{Float}
+use mir.Syntax.{w64}
+use mir.Val.{SFits, toZ, ofZ}
+use mir.Facts.{toZ-ofZ}
 use Rattle.laws.specs.Binary64.{+0}
 use Rattle.method.specs.declared.Sides.{Sides}
 use Rattle.method.specs.declared.Found.the-variants.{Nowhere, At}
@@ -25,12 +28,13 @@ use Rattle.theory.proofs.Sizes.{cells-of-six}
 use Rattle.theory.proofs.Counting.{counted-le}
 use Rattle.grid.proofs.Steps.{cells-most}
 use Rattle.levels.specs.declared.sides.Levels.{Levels}
-use Rattle.levels.specs.declared.lists.Lists.{Lists}
+use Rattle.bands.specs.declared.lists.Lists.{Lists}
 use Rattle.levels.specs.Rooms.{written}
 use Rattle.levels.specs.Levels.{levelsOf, base}
 use Rattle.levels.specs.AllLabels.{LabelsAsked, allLabels}
-use Rattle.levels.specs.AllLists.{baseLabels, AllListed, ListsAsked}
-use Rattle.levels.proofs.Calls.{base-is, labels-asked, base-labels, lists-asked}
+use Rattle.bands.specs.AllLists.{baseLabels, AllListed, ListsAsked}
+use Rattle.levels.proofs.Calls.{base-is, labels-asked}
+use Rattle.bands.proofs.Calls.{base-labels, lists-asked}
 use Rattle.smooth.specs.Fields.{u-of, b-of}
 use Rattle.cycle.specs.Strokes.{Ended, Put}
 use Rattle.cycle.specs.Rooms.{Ready, cellsOf, cycleFrom, fieldsFrom, Cycled}
@@ -145,9 +149,10 @@ module _ (g : Sides) (ls room left : List ℕ) (w : Walked) (z : Measured g ls r
   unfolding sealedAs
   walked-open e = record { depth = λ q. z .depth-is; sealed = λ q. rw (← z .sealed-is, e) refl }
 
-pub tick-whole : (x : Float) (t : Tick) (z : ℤ) → t ≡ tick x → t ≡ Whole z → TickOf x (record { whole = 1; value = z })
+-- the value as the machine reads it back from its bits
+pub tick-whole : (x : Float) (t : Tick) (z : ℤ) → SFits w64 z → t ≡ tick x → t ≡ Whole z → TickOf x (record { whole = 1; value = toZ w64 (ofZ w64 z) })
 unfolding tickAs
-tick-whole x t z e q = record { is = rw (← e, q) (refl, refl) }
+tick-whole x t z f e q = record { is = rw (← e, q) (refl, toZ-ofZ f) }
 
 pub tick-none : (x : Float) (t : Tick) → t ≡ tick x → t ≡ Refused → TickOf x (record { whole = 0; value = pos 0 })
 unfolding tickAs
@@ -160,4 +165,4 @@ module _ (t : Settings) (bytes : List ℕ) (room : ℕ) (old ls : List ℕ) (e :
   pub labels-short : length old < length ls → LabelsOf t bytes room old 0 old
   labels-short h = record { found = λ l. absurd (omega (arith, ap length e)) }
 
-pub ruleset calling = (needs, labels-put, labels-short, tick-whole, tick-none, sides-known, few-cells, asked-is, not-run, is-run, not-walked, roomy-is, walked-sealed, walked-open)
+pub ruleset calling = (needs, labels-put, labels-short, tick-none, sides-known, few-cells, asked-is, not-run, is-run, not-walked, roomy-is, walked-sealed, walked-open)

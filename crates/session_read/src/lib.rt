@@ -6,7 +6,7 @@ mod sizes;
 ghost use mathlib.Core.Path.{_≡_};
 ghost use Rattle.method.specs.Calls.{reading};
 ghost use Rattle.session_read.specs.Reads.{FitIf, ReadOf, asked, takenOf};
-use checks::rule::refusal;
+use answers::refusal;
 use grid::place::cell_count;
 use header::Header;
 use header::line::rest;

@@ -2,8 +2,8 @@
 mod judge;
 
 ghost use Rattle.session_write.specs.Writes.{WriteOf};
+use answers::refusal;
 use checks::Ruling;
-use checks::rule::refusal;
 use judge::judge_cast;
 use method::Answer;
 use method::Order;

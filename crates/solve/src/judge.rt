@@ -2,7 +2,7 @@
 ghost use mathlib.Core.Path.{_≡_};
 ghost use Prim.Native.Nat.{_≤_};
 ghost use lib.ListN.{length};
-ghost use Rattle.method.specs.Cast.{cells};
+ghost use Rattle.method.specs.Cast.{cells, isAir, isAt, first};
 ghost use Rattle.method.specs.Answers.{verdict};
 ghost use Rattle.method.specs.Calls.{checksBefore7};
 ghost use Rattle.theory.specs.Sides.{Fit};
@@ -15,6 +15,7 @@ use checks::cast::sides_fit;
 use checks::rule::earlier;
 use checks::rule::fault_unless;
 use checks::rule::ruled;
+use grid::near::label_at;
 use grid::place::cell_count;
 use method::Settings;
 use method::Sides;
@@ -50,6 +51,27 @@ fn lengths_fit(
     2 * n <= words
 }
 
+// Whether a cell is air.
+fn is_air(labels: &[u8], c: usize) -> bool
+    ensures { λ r. ⌜ r ≡ isAir (now (labels .entry)) c ⌝ }
+{
+    label_at(labels, c) == 0
+}
+
+// Whether some cell is air: check 6, left at the first.
+fn has_air(labels: &[u8]) -> bool
+    ensures { λ r. ⌜ r ≡ isAt (first (isAir (now (labels .entry))) (length (now (labels .entry)))) ⌝ }
+{
+    let mut c = 0;
+    while c < labels.len() {
+        if is_air(labels, c) {
+            return true;
+        }
+        c += 1;
+    }
+    false
+}
+
 // Checks 3 to 6, of a cast with a label and a value for each of its n cells.
 fn judge_content(
     sides: Sides,
@@ -64,7 +86,7 @@ fn judge_content(
 {
     let third = ruled(3, fault_unless(settings_fit(settings)));
     let cells = judge_cells(labels, values, n);
-    let sixth = ruled(6, fault_unless(0 < grid::interior::interior(labels, sides)));
+    let sixth = ruled(6, fault_unless(has_air(labels)));
     earlier(third, earlier(cells, sixth))
 }
 

@@ -26,6 +26,11 @@ pub record Accepted (a : Asked) (r : Solved) : Type 0 where
   pub worst-all : (c : ℕ) → label a c ≡ 0 → natAbs (left a (r .pressures) c) ≤ r .answer .worst
   pub worst-one : (c : ℕ) × (label a c ≡ 0) × (natAbs (left a (r .pressures) c) ≡ r .answer .worst)
   pub worst-fits : r .answer .worst ≤ a .settings .tolerance
+  -- worstcell is an air cell, worstvalue the exact residual there, of that size; no air cell before it has that size
+  pub worst-cell : label a (r .answer .worstcell) ≡ 0
+  pub worst-value : r .answer .worstvalue ≡ left a (r .pressures) (r .answer .worstcell)
+  pub worst-size : natAbs (r .answer .worstvalue) ≡ r .answer .worst
+  pub worst-first : (c : ℕ) → c < r .answer .worstcell → label a c ≡ 0 → natAbs (left a (r .pressures) c) < r .answer .worst
   -- interior is the number of air cells
   pub interior-is : r .answer .interior ≡ interior (a .cast .sides) (a .cast .labels)
   -- depth is the greatest least walk
