@@ -31,7 +31,7 @@ loop-less c = search clears
 
 loop-again : tie.Need-loop-again Inv-loop μ-loop
 unfolding lib.Ieee.ofBits
-loop-again c = search clears
+loop-again c = (search clears, (search clears, search clears))
 
 same-length : tie.Need-same-length Inv-loop μ-loop
 same-length c = search clears

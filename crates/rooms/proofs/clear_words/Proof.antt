@@ -29,7 +29,7 @@ loop-less : tie.Need-loop-less Inv-loop μ-loop
 loop-less c = search clears
 
 loop-again : tie.Need-loop-again Inv-loop μ-loop
-loop-again c = search clears
+loop-again c = (search clears, (search clears, search clears))
 
 same-length : tie.Need-same-length Inv-loop μ-loop
 same-length c = search clears
