@@ -56,7 +56,7 @@ fn put_large(
     bytes: &mut [u8; 65552],
     floats: &mut [f64; 262208],
     words: &mut [u32; 65536],
-    output: &mut [u8; 852076],
+    output: &mut [u8; 852128],
 ) {
     put(input, values, pressures, bytes, floats, words, output);
 }
@@ -68,7 +68,7 @@ fn main() {
     let mut bytes = [0u8; 65552];
     let mut floats = [0.0f64; 262208];
     let mut words = [0u32; 65536];
-    let mut output = [0u8; 852076];
+    let mut output = [0u8; 852128];
     let got = io::read_full(STDIN_FILENO, &mut input);
     put_large(
         &input[..got],

@@ -1,6 +1,7 @@
 // The makers of answers: every answer of the solver, the reader and the writer is made here, so a field more is a line in each.
 ghost use mathlib.Core.Path.{_≡_};
 ghost use Rattle.method.specs.Answers.{refusal as Answers·refusal, accepted as Answers·accepted, unfinished as Answers·unfinished};
+ghost use Rattle.answers.specs.Ends.{withoutWorst};
 use method::Answer;
 
 // How the rounds ended: accepted after so many with this worst residual, or with 8 or 9 after so many.
@@ -21,20 +22,36 @@ pub struct Measured {
     pub depth: u32,
 }
 
-// A number and a place alone.
-pub fn refusal(number: u32, place: u32) -> Answer
-    ensures { λ r. ⌜ r ≡ Answers·refusal number place ⌝ }
+// All but what an accepted answer says of its worst residual.
+fn without_worst(number: u32, place: u32, rounds: u32, interior: u32, depth: u32) -> Answer
+    ensures { λ r. ⌜ r ≡ withoutWorst number place rounds interior depth ⌝ }
 {
     Answer {
         number,
         place,
-        rounds: 0,
+        rounds,
         worst: 0,
         worstcell: 0,
         worstvalue: 0,
-        interior: 0,
-        depth: 0,
+        interior,
+        depth,
     }
+}
+
+// A number and a place alone.
+pub fn refusal(number: u32, place: u32) -> Answer
+    ensures { λ r. ⌜ r ≡ Answers·refusal number place ⌝ }
+{
+    without_worst(number, place, 0, 0, 0)
+}
+
+// Answers 8 and 9.
+pub fn unfinished(number: u32, rounds: u32, of: Measured) -> Answer
+    ensures { λ r. ⌜ r ≡ Answers·unfinished number rounds (of .interior) (of .depth) ⌝ }
+{
+    let interior = of.interior;
+    let depth = of.depth;
+    without_worst(number, 0, rounds, interior, depth)
 }
 
 // Answer 0 of the solver.
@@ -48,22 +65,6 @@ pub fn accepted(rounds: u32, worst: u32, at: Worst, of: Measured) -> Answer
         worst,
         worstcell: at.cell,
         worstvalue: at.left,
-        interior: of.interior,
-        depth: of.depth,
-    }
-}
-
-// Answers 8 and 9.
-pub fn unfinished(number: u32, rounds: u32, of: Measured) -> Answer
-    ensures { λ r. ⌜ r ≡ Answers·unfinished number rounds (of .interior) (of .depth) ⌝ }
-{
-    Answer {
-        number,
-        place: 0,
-        rounds,
-        worst: 0,
-        worstcell: 0,
-        worstvalue: 0,
         interior: of.interior,
         depth: of.depth,
     }

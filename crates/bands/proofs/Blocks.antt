@@ -12,12 +12,15 @@ use mir.Val.{Fits}
 use Rattle.laws.proofs.Bools.{so}
 use Rattle.method.specs.declared.Sides.{Sides}
 use Rattle.method.specs.Cast.{cells, number}
+use Rattle.method.specs.Levels.{half, halved}
 use Rattle.theory.specs.Sides.{Fit}
-use Rattle.theory.proofs.Numbers.{number-coordinates}
+use Rattle.theory.proofs.Sizes.{halved-fit}
+use Rattle.theory.proofs.Numbers.{number-in, number-coordinates}
 use Rattle.grid.specs.declared.place.Spot.{Spot}
 use Rattle.grid.specs.Place.{SpotOf, inBox, placeAt}
 use Rattle.grid.proofs.Laws.{small-two, small-three, place-inside}
 use Rattle.levels.specs.Kin.{Near, Begun, childAt, parentAt, parentSpot, wholeIn, firstChild, childStep}
+use Rattle.bands.specs.Other.{fourIn, blockIn, cornerOf, BlockAsked}
 
 -- ---- tests that pass together, and a choice that is below the one it has not taken
 left : (a b : Bool) → (a && b) ≡ true → a ≡ true
@@ -27,6 +30,10 @@ left false b e = e
 right : (a b : Bool) → (a && b) ≡ true → b ≡ true
 right true b e = e
 right false b e = absurd (so {b = false} e)
+
+no-right : (a b : Bool) → b ≡ false → (a && b) ≡ false
+no-right true b e = e
+no-right false b e = refl
 
 taken : (b : Bool) (i n : ℕ) → cond b i n < n → b ≡ true
 taken true i n l = refl
@@ -134,6 +141,158 @@ pub near-fits : (g : Sides) (n i j : ℕ) → Fit g → n ≡ cells g → i < n 
 unfolding cells
 near-fits g n i j z f l h = record { fits = omega (arith, small-three (g .nx) (g .ny) (g .nz) (z .nx-32) (z .ny-32) (z .nz-32), f, l, h) }
 
+-- ---- the block around a cell
+four-low : (a side : ℕ) → a < 1 → fourIn a side ≡ false
+unfolding fourIn
+four-low a side h = rw (le-ltb 0 a (omega arith))
+
+four-high : (a side : ℕ) → side ≤ 2 * a + 1 → fourIn a side ≡ false
+unfolding fourIn
+four-high a side h = rw (le-ltb (2 * a + 1) side h) (no-right (ltb 0 a) false refl)
+
+four-yes : (a side : ℕ) → 1 ≤ a → 2 * a + 1 < side → fourIn a side ≡ true
+unfolding fourIn
+four-yes a side h k = rw (lt-ltb 0 a h, lt-ltb (2 * a + 1) side k)
+
+record Four (x side : ℕ) : Type 0 where
+  low : 0 < x
+  high : 2 * x + 1 < side
+
+axis-in : (a q t side : ℕ) → 0 < a → 2 * a + 1 < side → (0 < 2 * (a + q % 2 - 1) + t % 2 + 1) × (2 * (a + q % 2 - 1) + t % 2 + 1 ≤ side)
+axis-in a q t side l h = (omega arith, omega arith)
+
+axis-same : (a q t : ℕ) → 0 < a → 2 * (a - 1) + (2 * (q % 2) + t % 2) + 1 - 1 ≡ 2 * (a + q % 2 - 1) + t % 2 + 1 - 1
+axis-same a q t l = omega arith
+
+axis-below : (a q t side : ℕ) → 0 < a → 2 * a + 1 < side → 2 * (a - 1) + (2 * (q % 2) + t % 2) + 1 - 1 < side
+axis-below a q t side l h = omega arith
+
+axis-half : (a q side : ℕ) → 0 < a → 2 * a + 1 < side → (0 < a + q % 2) × (a + q % 2 ≤ (side + 1) / 2)
+axis-half a q side l h = (omega arith, omega arith)
+
+four-of : (x side : ℕ) → fourIn x side ≡ true → Four x side
+unfolding fourIn
+four-of x side h = record { low = ltb-true 0 x (left (ltb 0 x) _ h); high = ltb-true (2 * x + 1) side (right (ltb 0 x) _ h) }
+
+module _ (g : Sides) (s : Spot) where
+  abbrev X : ℕ
+  X = (s .x + 1) / 2
+
+  abbrev Y : ℕ
+  Y = (s .y + 1) / 2
+
+  abbrev Z : ℕ
+  Z = (s .z + 1) / 2
+
+  -- by the tests of the code
+  no-block : blockIn g s ≡ false → (r : ℕ) → r ≡ cells g → r ≡ cornerOf g s
+  unfolding cornerOf
+  no-block e r q = rw e q
+
+  not-x : fourIn X (g .nx) ≡ false → blockIn g s ≡ false
+  unfolding blockIn
+  not-x e = rw e
+
+  not-y : fourIn Y (g .ny) ≡ false → blockIn g s ≡ false
+  unfolding blockIn
+  not-y e = rw e (no-right (fourIn X (g .nx)) false refl)
+
+  not-z : fourIn Z (g .nz) ≡ false → blockIn g s ≡ false
+  unfolding blockIn
+  not-z e = rw e (no-right (fourIn X (g .nx)) _ (no-right (fourIn Y (g .ny)) false refl))
+
+  module _ (r : ℕ) (q : r ≡ cells g) where
+    pub corner-x-low : X < 1 → r ≡ cornerOf g s
+    corner-x-low h = no-block (not-x (four-low X (g .nx) h)) r q
+
+    pub corner-x-high : g .nx ≤ 2 * X + 1 → r ≡ cornerOf g s
+    corner-x-high h = no-block (not-x (four-high X (g .nx) h)) r q
+
+    pub corner-y-low : Y < 1 → r ≡ cornerOf g s
+    corner-y-low h = no-block (not-y (four-low Y (g .ny) h)) r q
+
+    pub corner-y-high : g .ny ≤ 2 * Y + 1 → r ≡ cornerOf g s
+    corner-y-high h = no-block (not-y (four-high Y (g .ny) h)) r q
+
+    pub corner-z-low : Z < 1 → r ≡ cornerOf g s
+    corner-z-low h = no-block (not-z (four-low Z (g .nz) h)) r q
+
+    pub corner-z-high : g .nz ≤ 2 * Z + 1 → r ≡ cornerOf g s
+    corner-z-high h = no-block (not-z (four-high Z (g .nz) h)) r q
+
+  pub corner-whole : (r : ℕ) → 1 ≤ X → 2 * X + 1 < g .nx → 1 ≤ Y → 2 * Y + 1 < g .ny → 1 ≤ Z → 2 * Z + 1 < g .nz
+      → r ≡ number g (2 * (X - 1)) (2 * (Y - 1)) (2 * (Z - 1)) → r ≡ cornerOf g s
+  unfolding cornerOf blockIn
+  corner-whole r a b c d e f q = rw (four-yes X (g .nx) a b, four-yes Y (g .ny) c d, four-yes Z (g .nz) e f) q
+
+  module _ (h : Sides) (first labels : ℕ) (a : BlockAsked g h s first labels) where
+    all-in : blockIn g s ≡ true
+    unfolding cornerOf
+    all-in = taken (blockIn g s) (number g (2 * (X - 1)) (2 * (Y - 1)) (2 * (Z - 1))) (cells g) (rw (← a .is) (a .inside))
+
+    begins : first ≡ number g (2 * (X - 1)) (2 * (Y - 1)) (2 * (Z - 1))
+    unfolding cornerOf
+    begins = a .is ∙ ap (λ b. cond b (number g (2 * (X - 1)) (2 * (Y - 1)) (2 * (Z - 1))) (cells g)) all-in
+
+    in-x : Four X (g .nx)
+    unfolding blockIn
+    in-x = four-of X (g .nx) (left (fourIn X (g .nx)) _ all-in)
+
+    in-y : Four Y (g .ny)
+    unfolding blockIn
+    in-y = four-of Y (g .ny) (left (fourIn Y (g .ny)) _ (right (fourIn X (g .nx)) _ all-in))
+
+    in-z : Four Z (g .nz)
+    unfolding blockIn
+    in-z = four-of Z (g .nz) (right (fourIn Y (g .ny)) _ (right (fourIn X (g .nx)) _ all-in))
+
+    -- the t-th child of the q-th coarse cell
+    block-number : (q t : ℕ) → first + 2 * childStep g q + childStep g t
+        ≡ number g (2 * (X - 1) + (2 * (q % 2) + t % 2) + 1 - 1) (2 * (Y - 1) + (2 * (q / 2 % 2) + t / 2 % 2) + 1 - 1) (2 * (Z - 1) + (2 * (q / 2 / 2 % 2) + t / 2 / 2 % 2) + 1 - 1)
+    unfolding childStep
+    block-number q t =
+        let p : first + 2 * (q % 2 + q / 2 % 2 * g .nx + q / 2 / 2 % 2 * (g .nx * g .ny)) + (t % 2 + t / 2 % 2 * g .nx + t / 2 / 2 % 2 * (g .nx * g .ny))
+        ≡ first + (2 * (q % 2) + t % 2 + (2 * (q / 2 % 2) + t / 2 % 2) * g .nx + (2 * (q / 2 / 2 % 2) + t / 2 / 2 % 2) * (g .nx * g .ny)) = omega arith in
+        p ∙ ap (λ k. k + (2 * (q % 2) + t % 2 + (2 * (q / 2 % 2) + t / 2 % 2) * g .nx + (2 * (q / 2 / 2 % 2) + t / 2 / 2 % 2) * (g .nx * g .ny))) begins
+        ∙ moved g (2 * (X - 1)) (2 * (Y - 1)) (2 * (Z - 1)) (2 * (q % 2) + t % 2) (2 * (q / 2 % 2) + t / 2 % 2) (2 * (q / 2 / 2 % 2) + t / 2 / 2 % 2)
+
+    pub block-child : (q t : ℕ) → first + 2 * childStep g q + childStep g t ≡ childAt g (parentSpot s q) t
+    unfolding childAt parentSpot
+    block-child q t =
+        place-inside g _ _ _ _
+        (axis-in ((s .x + 1) / 2) q t (g .nx) (in-x .low) (in-x .high))
+        (axis-in ((s .y + 1) / 2) (q / 2) (t / 2) (g .ny) (in-y .low) (in-y .high))
+        (axis-in ((s .z + 1) / 2) (q / 2 / 2) (t / 2 / 2) (g .nz) (in-z .low) (in-z .high))
+        (block-number q t
+        ∙ same (axis-same ((s .x + 1) / 2) q t (in-x .low)) (axis-same ((s .y + 1) / 2) (q / 2) (t / 2) (in-y .low)) (axis-same ((s .z + 1) / 2) (q / 2 / 2) (t / 2 / 2) (in-z .low)))
+      where
+        same : {i j k i′ j′ k′ : ℕ} → i ≡ i′ → j ≡ j′ → k ≡ k′ → number g i j k ≡ number g i′ j′ k′
+        same e f h = cc
+
+    pub block-inside : (q t : ℕ) → first + 2 * childStep g q + childStep g t < labels
+    block-inside q t =
+        let n = number-in g _ _ _
+        (axis-below ((s .x + 1) / 2) q t (g .nx) (in-x .low) (in-x .high))
+        (axis-below ((s .y + 1) / 2) (q / 2) (t / 2) (g .ny) (in-y .low) (in-y .high))
+        (axis-below ((s .z + 1) / 2) (q / 2 / 2) (t / 2 / 2) (g .nz) (in-z .low) (in-z .high)) in
+        omega (arith, n, block-number q t, a .full)
+
+    -- the q-th coarse cell is in its box
+    halves-in : (q : ℕ) → parentAt (halved g) s q < cells (halved g)
+    unfolding parentAt halved half
+    halves-in q =
+        let x = axis-half ((s .x + 1) / 2) q (g .nx) (in-x .low) (in-x .high) in
+        let y = axis-half ((s .y + 1) / 2) (q / 2) (g .ny) (in-y .low) (in-y .high) in
+        let z = axis-half ((s .z + 1) / 2) (q / 2 / 2) (g .nz) (in-z .low) (in-z .high) in
+        let p = place-inside (halved g) _ _ _ _ x y z refl in
+        rw (← p) (number-in (halved g) _ _ _ (below _ _ (x .0) (x .1)) (below _ _ (y .0) (y .1)) (below _ _ (z .0) (z .1)))
+      where
+        below : (a b : ℕ) → 0 < a → a ≤ b → a - 1 < b
+        below a b l h = omega arith
+
+    pub block-parent : (q : ℕ) → parentAt h s q < cells h
+    block-parent q = rw (a .next) (halves-in q)
+
 -- the products and sums of the step
 module _ (a b t : ℕ) (h : a ≤ 32) (k : b ≤ 32) where
   row : t / 2 % 2 * a ≤ 32
@@ -161,5 +320,7 @@ module _ (a b t : ℕ) (h : a ≤ 32) (k : b ≤ 32) where
   step-fits = record { fits = omega (arith, step-far) }
 
 pub ruleset blocks = (needs, outside-is, first-out-x, first-out-y, first-out-z, first-whole, child-near, near-fits)
+
+pub ruleset corners = (needs, corner-x-low, corner-x-high, corner-y-low, corner-y-high, corner-z-low, corner-z-high, corner-whole)
 
 pub ruleset steps = (needs, step-far, plane-fits, row-fits, level-fits, two-fits, step-fits)

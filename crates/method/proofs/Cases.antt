@@ -82,6 +82,10 @@ sevens n = replicate n (pos 7)
 abbrev pub half : ℕ → ℕ → Asked
 half tolerance rounds = call 3 (1 ∷ 0 ∷ 1 ∷ []) (pos 0 ∷ pos 1 ∷ pos 0 ∷ []) tolerance rounds
 
+-- labels 1 0 0 1, sources -5 and 5, so that with pressures of 0 two residuals have the same size
+abbrev pub twice : Asked
+twice = call 4 (1 ∷ 0 ∷ 0 ∷ 1 ∷ []) (pos 0 ∷ negsuc 4 ∷ pos 5 ∷ pos 0 ∷ []) 5 5
+
 -- x after a round
 abbrev pub xOf : Turn → List Float
 xOf stalled = []
@@ -172,13 +176,14 @@ table =
     ∷ case (map tick (2^41f ∷ 2^41+1f ∷ nan ∷ [])) (Whole (pos (2 ^ 41)) ∷ Refused ∷ Refused ∷ [])
     ∷ case (solving faulty .answer) (answer 4 4 0 0 0 0)
     ∷ case (map tick (-1½ ∷ -2½ ∷ below½ ∷ 2^41+½f ∷ -2^41-½f ∷ [])) (Whole (negsuc 1) ∷ Whole (negsuc 1) ∷ Whole (pos 0) ∷ Whole (pos (2 ^ 41)) ∷ Whole (negsuc (2 ^ 41 - 1)) ∷ [])
+    ∷ case (solving twice) (ends 24 96 8 (answerAt 0 0 0 5 1 (negsuc 4) 2 1) (replicate 4 (pos 0)))
     ∷ case (program example) (text "answer=0\nplace=0\nrounds=1\nworst=0\nworstcell=1\nworstvalue=0\ninterior=1\ndepth=1\ncell=10\ncell=15\ncell=20\n")
     ∷ []
 
 -- THE CLAIM
 pub all-hold : AllHold table
 unfolding table computing
-all-hold = (refl, (refl, (refl, (refl, (refl, (refl, (refl, (refl, (refl, (refl, (refl, (refl, (refl, (refl, (refl, (refl, tt))))))))))))))))
+all-hold = (refl, (refl, (refl, (refl, (refl, (refl, (refl, (refl, (refl, (refl, (refl, (refl, (refl, (refl, (refl, (refl, (refl, tt)))))))))))))))))
 
 -- ---- each case by itself
 
@@ -243,6 +248,11 @@ pub case-ties : map tick (-1½ ∷ -2½ ∷ below½ ∷ 2^41+½f ∷ -2^41-½f �
 unfolding table
 case-ties = holds-at table all-hold 14
 
+-- wish 5: the first of two cells of the same size, and its sign
+pub case-worst : solving twice ≡ ends 24 96 8 (answerAt 0 0 0 5 1 (negsuc 4) 2 1) (replicate 4 (pos 0))
+unfolding table
+case-worst = holds-at table all-hold 15
+
 pub case-program : program example ≡ text "answer=0\nplace=0\nrounds=1\nworst=0\nworstcell=1\nworstvalue=0\ninterior=1\ndepth=1\ncell=10\ncell=15\ncell=20\n"
 unfolding table
-case-program = holds-at table all-hold 15
+case-program = holds-at table all-hold 16

@@ -33,6 +33,10 @@ pub record Asked : Type 0 where
   pub floats : List Float
   pub words : List ℕ
 
+-- the cast that the rounds are run on, of which an accepted answer speaks: the one handed in
+abbrev pub solvedCast : Asked → Cast
+solvedCast a = a .cast
+
 abbrev pub size : Asked → ℕ
 size a = cells (a .cast .sides)
 

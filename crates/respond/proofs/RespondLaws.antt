@@ -89,7 +89,7 @@ crowded-put bs limit t a ps w u j e q f l p =
 pub not-crowded : (bs : List ℕ) (limit : ℕ) (t : Bool) → t ≡ crowded limit bs → t ≡ false → crowded limit bs ≡ false
 not-crowded bs limit t e q = sym e ∙ q
 
-pub no-room : (limit m : ℕ) → printRoom limit ≤ m → 108 ≤ m
+pub no-room : (limit m : ℕ) → printRoom limit ≤ m → 160 ≤ m
 no-room limit m h = omega arith
 
 pub ruleset responses = (needs, crowded-put, not-crowded, no-room)

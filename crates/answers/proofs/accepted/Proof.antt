@@ -1,6 +1,6 @@
 -- `answers::accepted` meets its contract. Assumes nothing.
-use borrow.Author.Needs.{needs}
 use Rattle.method.specs.Answers.{accepted}
+use borrow.Author.Needs.{needs}
 use Rattle.answers.proofs.accepted.Statement.{statement}
 use Rattle.answers.proofs.accepted.Tie as tie
 

@@ -1,102 +1,41 @@
--- `bands::band::in_band` meets its contract: no hit yet, in the parents before q and in the children before t. Assumes nothing.
-use Prim.Native.Nat.{_≤_, _-_}
-use mathlib.Core.Path.{_≡_}
-use mathlib.Core.Bool.{false}
-use Rattle.bands.specs.Other.{childOther, parentOther}
-use Rattle.levels.proofs.Rooms.{None}
-use Rattle.bands.proofs.Hits.{hits}
+-- `bands::band::in_band` meets its contract, by what the two searches find. Assumes nothing.
+use Rattle.bands.proofs.Hits.{in-bands}
 use Rattle.bands.proofs.band.in_band.Statement.{statement}
 use Rattle.bands.proofs.band.in_band.Tie as tie
 
-abbrev Inv-loop : tie.InvT-loop
-Inv-loop labels g h n m c s found₀ q k first t₀ found t = (t ≤ 8) × (found ≡ false) × None (childOther labels g k) t
+label-at-requires : tie.Need-label-at-requires
+label-at-requires c κs = search in-bands
 
-abbrev μ-loop : tie.MeasureT-loop
-μ-loop labels g h n m c s found₀ q k first t₀ found t = 8 - t
+returns : tie.Need-returns
+returns c = search in-bands
 
-abbrev Inv-coarse : tie.InvT-coarse
-Inv-coarse labels g h n m c s found₀ q₀ found q = (q ≤ 8) × (found ≡ false) × None (parentOther labels g h s) q
+spot-of-requires : tie.Need-spot-of-requires
+spot-of-requires c κs = search in-bands
 
-abbrev μ-coarse : tie.MeasureT-coarse
-μ-coarse labels g h n m c s found₀ q₀ found q = 8 - q
+corner-requires : tie.Need-corner-requires
+corner-requires c κs = search in-bands
 
-label-at-requires : tie.Need-label-at-requires Inv-loop μ-loop Inv-coarse μ-coarse
-label-at-requires c κs = search hits
+in-block-other-requires : tie.Need-in-block-other-requires
+in-block-other-requires c κs = search in-bands
 
-returns : tie.Need-returns Inv-loop μ-loop Inv-coarse μ-coarse
-returns c = search hits
+returns-2 : tie.Need-returns-2
+returns-2 c = search in-bands
 
-spot-of-requires : tie.Need-spot-of-requires Inv-loop μ-loop Inv-coarse μ-coarse
-spot-of-requires c κs = search hits
+around-other-requires : tie.Need-around-other-requires
+around-other-requires c κs = search in-bands
 
-coarse-holds : tie.Need-coarse-holds Inv-loop μ-loop Inv-coarse μ-coarse
-coarse-holds c = search hits
-
-is-outside-requires : tie.Need-is-outside-requires Inv-loop μ-loop Inv-coarse μ-coarse
-is-outside-requires c κs = search hits
-
-parent-spot-requires : tie.Need-parent-spot-requires Inv-loop μ-loop Inv-coarse μ-coarse
-parent-spot-requires c κs = search hits
-
-first-child-requires : tie.Need-first-child-requires Inv-loop μ-loop Inv-coarse μ-coarse
-first-child-requires c κs = search hits
-
-loop-holds : tie.Need-loop-holds Inv-loop μ-loop Inv-coarse μ-coarse
-loop-holds c = search hits
-
-is-other-requires : tie.Need-is-other-requires Inv-loop μ-loop Inv-coarse μ-coarse
-is-other-requires c κs = search hits
-
-add-t : tie.Need-add-t Inv-loop μ-loop Inv-coarse μ-coarse
-add-t c = search hits
-
-loop-less : tie.Need-loop-less Inv-loop μ-loop Inv-coarse μ-coarse
-loop-less c = search hits
-
-loop-again : tie.Need-loop-again Inv-loop μ-loop Inv-coarse μ-coarse
-loop-again c = search hits
-
-add-q : tie.Need-add-q Inv-loop μ-loop Inv-coarse μ-coarse
-add-q c = search hits
-
-coarse-less : tie.Need-coarse-less Inv-loop μ-loop Inv-coarse μ-coarse
-coarse-less c = search hits
-
-coarse-again : tie.Need-coarse-again Inv-loop μ-loop Inv-coarse μ-coarse
-coarse-again c = search hits
-
-returns-2 : tie.Need-returns-2 Inv-loop μ-loop Inv-coarse μ-coarse
-returns-2 c = search hits
-
-returns-3 : tie.Need-returns-3 Inv-loop μ-loop Inv-coarse μ-coarse
-returns-3 c = search hits
-
-returns-4 : tie.Need-returns-4 Inv-loop μ-loop Inv-coarse μ-coarse
-returns-4 c = search hits
+returns-3 : tie.Need-returns-3
+returns-3 c = search in-bands
 
 pub in-band-spec : {M : Type 1} → statement M
 in-band-spec =
     tie.close
     (tie.spec
-    Inv-loop
-    μ-loop
-    Inv-coarse
-    μ-coarse
     label-at-requires
     returns
     spot-of-requires
-    coarse-holds
-    is-outside-requires
-    parent-spot-requires
-    first-child-requires
-    loop-holds
-    is-other-requires
-    add-t
-    loop-less
-    loop-again
-    add-q
-    coarse-less
-    coarse-again
+    corner-requires
+    in-block-other-requires
     returns-2
-    returns-3
-    returns-4)
+    around-other-requires
+    returns-3)
