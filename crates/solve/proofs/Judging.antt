@@ -48,17 +48,19 @@ module _ (n labels values pressures bytes floats words : ℕ) where
   pressures-wrong a b h = rw (eq-eqb labels n a, eq-eqb values n b, ne-eqb pressures n h)
 
   module _ (a : labels ≡ n) (b : values ≡ n) (c : pressures ≡ n) where
-    pub bytes-short : bytes < 2 * n + 16 → false ≡ lengthsBy n labels values pressures bytes floats words
-    unfolding lengthsBy byteNeed
-    bytes-short h = rw (eq-eqb labels n a, eq-eqb values n b, eq-eqb pressures n c, lt-leb (2 * n + 16) bytes h)
+    module _ (l : ℕ) (p : l ≡ byteNeed n) where
+      pub bytes-short : bytes < l → false ≡ lengthsBy n labels values pressures bytes floats words
+      unfolding lengthsBy
+      bytes-short h = rw (eq-eqb labels n a, eq-eqb values n b, eq-eqb pressures n c, lt-leb (byteNeed n) bytes (omega (arith, p)))
 
-    pub floats-short : 2 * n + 16 ≤ bytes → floats < 8 * n + 64 → false ≡ lengthsBy n labels values pressures bytes floats words
-    unfolding lengthsBy byteNeed floatNeed
-    floats-short d h = rw (eq-eqb labels n a, eq-eqb values n b, eq-eqb pressures n c, le-leb (2 * n + 16) bytes d, lt-leb (8 * n + 64) floats h)
+      module _ (m : ℕ) (q : m ≡ floatNeed n) (d : l ≤ bytes) where
+        pub floats-short : floats < m → false ≡ lengthsBy n labels values pressures bytes floats words
+        unfolding lengthsBy
+        floats-short h = rw (eq-eqb labels n a, eq-eqb values n b, eq-eqb pressures n c, le-leb (byteNeed n) bytes (omega (arith, p)), lt-leb (floatNeed n) floats (omega (arith, q)))
 
-    pub words-last : 2 * n + 16 ≤ bytes → 8 * n + 64 ≤ floats → leb (2 * n) words ≡ lengthsBy n labels values pressures bytes floats words
-    unfolding lengthsBy byteNeed floatNeed wordNeed
-    words-last d e = rw (eq-eqb labels n a, eq-eqb values n b, eq-eqb pressures n c, le-leb (2 * n + 16) bytes d, le-leb (8 * n + 64) floats e)
+        pub words-last : (k : ℕ) → k ≡ wordNeed n → m ≤ floats → leb k words ≡ lengthsBy n labels values pressures bytes floats words
+        unfolding lengthsBy
+        words-last k r e = rw (eq-eqb labels n a, eq-eqb values n b, eq-eqb pressures n c, le-leb (byteNeed n) bytes (omega (arith, p)), le-leb (floatNeed n) floats (omega (arith, q)), r)
 
 pub ruleset lengths = (needs, labels-wrong, values-wrong, pressures-wrong, bytes-short, floats-short, words-last)
 

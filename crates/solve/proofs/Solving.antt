@@ -33,7 +33,7 @@ use Rattle.checks.specs.Rulings.{rulingOf}
 use Rattle.rounds.specs.Rounds.{castOf}
 use Rattle.solve.specs.Solve.{asked, SolveOf}
 use Rattle.solve.specs.Work.{Checked, fromSeven, Worked}
-use Rattle.solve.proofs.Clears.{cleared-home}
+use Rattle.rooms.proofs.Clears.{cleared-home}
 use Rattle.solve.proofs.Judging.{both}
 
 pub in-range : (lo hi x : ℕ) → between lo hi x ≡ true → (lo ≤ x) × (x ≤ hi)

@@ -19,6 +19,9 @@ use grid::near::label_at;
 use grid::place::cell_count;
 use method::Settings;
 use method::Sides;
+use rooms::byte_need;
+use rooms::float_need;
+use rooms::word_need;
 
 // Check 2: labels, values and pressures have one element a cell, and no room is short.
 fn lengths_fit(
@@ -42,13 +45,13 @@ fn lengths_fit(
     if pressures != n {
         return false;
     }
-    if bytes < 2 * n + 16 {
+    if bytes < byte_need(n) {
         return false;
     }
-    if floats < 8 * n + 64 {
+    if floats < float_need(n) {
         return false;
     }
-    2 * n <= words
+    word_need(n) <= words
 }
 
 // Whether a cell is air.

@@ -1,5 +1,4 @@
 // The solver's entry point (document 01, "What comes back"): refusals in their order, then three parts: prepare, run, clear.
-pub mod clear;
 mod judge;
 pub mod prepare;
 
@@ -15,13 +14,13 @@ use answers::accepted;
 use answers::refusal;
 use answers::unfinished;
 use checks::Ruling;
-use clear::clear;
 use judge::judge;
 use method::Answer;
 use method::Found;
 use method::Settings;
 use method::Sides;
 use prepare::prepare;
+use rooms::clear;
 use rounds::Plan;
 
 // One set of values on a prepared cast: the rounds, and the pressures where they are accepted. Labels and lists stay.
