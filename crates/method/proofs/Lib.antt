@@ -1,3 +1,4 @@
 -- The hand cases.
 pub mod Cases
 pub mod OldCases
+pub mod OldProgramCases
