@@ -44,7 +44,7 @@ fn too_many(bytes: &[u8], limit: usize) -> bool
 }
 
 // A cast is solved, and the answer shown.
-fn solved(
+pub fn solved(
     sides: Sides,
     labels: &[u8],
     values: &[i32],
