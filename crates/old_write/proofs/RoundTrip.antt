@@ -21,10 +21,10 @@ use Rattle.old_read.specs.OldReads.{OldReadOf, oldLent, oldAsked}
 use Rattle.old_read.specs.declared.OldSession.{OldSession}
 use Rattle.old_read.proofs.ReadLaws.{same-verdict, reading-passed}
 use Rattle.old_write.specs.OldWrites.{OldWriteOf, oldOffered}
-use Rattle.old_write.specs.declared.OldWritten.{OldWritten}
+use Rattle.session_write.specs.declared.Written.{Written}
 
 -- ---- WRITTEN, THEN READ
-module _ (s : Sides) (u : ℕ) (ls : List ℕ) (vs : List ℤ) (old new : List ℕ) (w : OldWritten) (p : OldWriteOf s u ls vs old w new) (z : w .answer .number ≡ 0) where
+module _ (s : Sides) (u : ℕ) (ls : List ℕ) (vs : List ℤ) (old new : List ℕ) (w : Written) (p : OldWriteOf s u ls vs old w new) (z : w .answer .number ≡ 0) where
   abbrev offered : OldWriting
   offered = oldOffered s u ls vs old
 
@@ -82,7 +82,7 @@ module _ (t : Settings) (bytes : List ℕ) (b : Bytes bytes) (lent after : List 
   labels-are x e = e ∙ ap (λ q. q .labels) (reading-passed (oldAsked t bytes (length lent)) (sym (same-verdict t bytes lent) ∙ was-read))
 
   pub read-written : (x : List ℕ) → x ≡ oldReading (oldAsked t bytes (length lent)) .labels
-      → (out new : List ℕ) (w : OldWritten) → length bytes ≤ length out → OldWriteOf (r .sides) (r .unit) x (take (cells (r .sides)) after) out w new
+      → (out new : List ℕ) (w : Written) → length bytes ≤ length out → OldWriteOf (r .sides) (r .unit) x (take (cells (r .sides)) after) out w new
       → ((w .answer ≡ done) × (w .count ≡ length bytes)) × (new ≡ bytes ++ drop (length bytes) out)
   unfolding oldCastIn
   read-written x e out new w l q =

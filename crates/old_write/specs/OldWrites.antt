@@ -13,14 +13,14 @@ use Rattle.checks.specs.Faults.{cellRuling}
 use Rattle.checks.specs.Rulings.{rulingOf, rulingBy, firstOf}
 use Rattle.checks.specs.declared.Ruling.{Ruling}
 use Rattle.checks.specs.declared.Ruling.the-variants.{Refused, Allowed}
-use Rattle.old_write.specs.declared.OldWritten.{OldWritten}
+use Rattle.session_write.specs.declared.Written.{Written}
 
 -- an old session to be written to an output
 abbrev pub oldOffered : Sides → ℕ → List ℕ → List ℤ → List ℕ → OldWriting
 oldOffered s u ls vs output = record { cast = record { sides = s; labels = ls; values = vs }; unit = u; output = output }
 
 -- THE PROMISE of `write_old`: what comes back, and what the lent output holds, are those of method's `oldWriting`.
-pub record OldWriteOf (s : Sides) (u : ℕ) (ls : List ℕ) (vs : List ℤ) (old : List ℕ) (r : OldWritten) (new : List ℕ) : Type 0 where
+pub record OldWriteOf (s : Sides) (u : ℕ) (ls : List ℕ) (vs : List ℤ) (old : List ℕ) (r : Written) (new : List ℕ) : Type 0 where
   pub answer : r .answer ≡ oldWriting (oldOffered s u ls vs old) .answer
   pub count : r .count ≡ oldWriting (oldOffered s u ls vs old) .count
   pub output : new ≡ oldWriting (oldOffered s u ls vs old) .output

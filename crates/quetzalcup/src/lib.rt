@@ -14,7 +14,6 @@ use method::Order;
 use method::Settings;
 use method::Sides;
 use old_read::OldSession;
-use old_write::OldWritten;
 use rooms::byte_need;
 use rooms::float_need;
 use rooms::word_need;
@@ -147,7 +146,7 @@ pub extern "C" fn quetz_old_write(
     labels: &[u8],
     values: &[i32],
     output: &mut [u8],
-) -> OldWritten
+) -> Written
     ensures { λ r. ⌜ OldWriteOf sides unit (now (labels .entry)) (now (values .entry)) (now (output .entry)) r (now (output .exit)) ⌝ }
 {
     old_write::write_old(sides, unit, labels, values, output)

@@ -9,7 +9,7 @@ use Rattle.method.specs.declared.Settings.{Settings}
 use Rattle.session_write.specs.Writes.{WriteOf}
 use Rattle.session_write.specs.declared.Written.{Written}
 
-written-eq : (r q : Written) → r .answer ≡ q .answer → r .count ≡ q .count → r ≡ q
+pub written-eq : (r q : Written) → r .answer ≡ q .answer → r .count ≡ q .count → r ≡ q
 written-eq r q a c = ap₂ (λ x y. record { answer = x; count = y }) a c
 
 pub write-one : (s : Sides) (o : Order) (t : Settings) (ls : List ℕ) (vs : List ℤ) (old : List ℕ) (r q : Written) (x y : List ℕ)
