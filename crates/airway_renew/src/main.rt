@@ -10,7 +10,7 @@ use method::Answer;
 use method::Order;
 use method::Settings;
 use renew::renew;
-use session::Written;
+use session_write::Written;
 use show::show;
 ghost use mathlib.Core.Path.{_≡_};
 ghost use Prim.Native.Nat.{_≤_};

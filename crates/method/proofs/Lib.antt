@@ -2,3 +2,4 @@
 pub mod Cases
 pub mod OldCases
 pub mod OldProgramCases
+pub mod ManyCases

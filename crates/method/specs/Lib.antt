@@ -9,4 +9,5 @@ pub mod Calls
 pub mod Program
 pub mod OldForm
 pub mod OldProgram
+pub mod Many
 pub mod Computing

@@ -21,7 +21,8 @@ use Rattle.method.specs.Calls.{Asked, lengthsFit, solving}
 use Rattle.method.specs.Program.{print, shown}
 use Rattle.method.specs.OldForm.{OldReading, oldHeader, oldLabelsIn, oldValuesIn, oldCastIn, oldValueRead, oldLineCheck, oldSideCheck, oldBodyCheck, oldRoomCheck, oldContentChecks, oldReaderChecks, oldNotRead, oldIsRead, oldReading}
 use Rattle.method.specs.OldProgram.{oldTaken, oldPosed, oldPrinted}
-use Rattle.theory.proofs.Sides.{Fit, fit}
+use Rattle.theory.specs.Sides.{Fit}
+use Rattle.theory.proofs.Sides.{fit}
 use Rattle.theory.proofs.Verdicts.{Judged, fine, faulty, judge, AllPass, all-pass, no-fault, no-fault′}
 use Rattle.theory.proofs.OldRoundTrip.{old-read-0}
 use Rattle.old_read.specs.OldReads.{oldLent, oldAsked, OldReadOf}

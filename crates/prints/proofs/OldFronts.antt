@@ -24,7 +24,8 @@ use Rattle.method.specs.Calls.{solving}
 use Rattle.method.specs.Program.{print, shown}
 use Rattle.method.specs.OldForm.{oldParts, oldHeaderOf, oldHeader, oldWrongLine, oldBadLine, lineOfPart, sizeWord, oldHeaderWritten, oldLineCheck, oldSideCheck, oldBodyCheck, oldReaderChecks}
 use Rattle.method.specs.OldProgram.{oldTaken, oldPosed, oldPrinted, Renewal, renewal}
-use Rattle.theory.proofs.Sides.{Fit, fit}
+use Rattle.theory.specs.Sides.{Fit}
+use Rattle.theory.proofs.Sides.{fit}
 use Rattle.checks.proofs.RuleLaws.{fails-at, passes-on, fault-no, fault-yes}
 use Rattle.prints.specs.Prints.{largeRoom, longestOldHeader, oldBuffer}
 use Rattle.prints.proofs.Fronts.{linesOn, Front, Fronts, end, next, to-front, lines-on, Left, lines-left, not-nowhere, large-room}

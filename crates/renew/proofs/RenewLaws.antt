@@ -20,7 +20,8 @@ use Rattle.method.specs.Answers.{fault, passed, verdict, refusal, done, filled}
 use Rattle.method.specs.Calls.{Writing, Written, bytesOf, writerLengthsFit, writerChecks, writing}
 use Rattle.method.specs.OldForm.{OldReading, oldHeader, oldLabelsIn, oldValuesIn, oldCastIn, unitFits, oldLineCheck, oldSideCheck, oldBodyCheck, oldRoomCheck, oldContentChecks, oldReaderChecks, oldNotRead, oldIsRead, oldReading}
 use Rattle.method.specs.OldProgram.{oldTaken, renewal}
-use Rattle.theory.proofs.Sides.{Fit, fit, to}
+use Rattle.theory.specs.Sides.{Fit}
+use Rattle.theory.proofs.Sides.{fit, to}
 use Rattle.theory.proofs.Verdicts.{Judged, fine, faulty, judge, pass-all, no-fault, no-fault-in}
 use Rattle.puts.proofs.DecimalLaws.{most-digits}
 use Rattle.writes.specs.Lengths.{OrderLength}
@@ -28,8 +29,8 @@ use Rattle.writes.proofs.LengthLaws.{order-big, order-little, header-long, writ
 use Rattle.old_read.specs.OldReads.{oldLent, oldAsked, OldReadOf}
 use Rattle.old_read.specs.declared.OldSession.{OldSession}
 use Rattle.old_read.proofs.ReadLaws.{same-verdict, reading-passed}
-use Rattle.session.specs.declared.Written.{Written as Back}
-use Rattle.session.specs.Writes.{offered, WriteOf}
+use Rattle.session_write.specs.declared.Written.{Written as Back}
+use Rattle.session_write.specs.Writes.{offered, WriteOf}
 use Rattle.prints.specs.Prints.{bufferFor, largeRoom, oldBuffer}
 use Rattle.prints.proofs.Fronts.{buffer-for}
 use Rattle.prints.proofs.OldFronts.{renewal-refused, old-front-renews}

@@ -4,7 +4,7 @@ use mathlib.Core.List.{List}
 use Prim.Native.Nat.{ℕ}
 use Rattle.method.specs.declared.Order.{Order}
 use Rattle.method.specs.declared.Settings.{Settings}
-use Rattle.session.specs.declared.Written.{Written}
+use Rattle.session_write.specs.declared.Written.{Written}
 use Rattle.renew.specs.Renews.{RenewOf}
 
 pub renew-one : (room : ℕ) (o : Order) (t : Settings) (bs old : List ℕ) (r q : Written) (x y : List ℕ) → RenewOf room o t bs old r x → RenewOf room o t bs old q y

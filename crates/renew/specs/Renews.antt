@@ -8,7 +8,7 @@ use Rattle.method.specs.declared.Settings.{Settings}
 use Rattle.method.specs.Answers.{filled}
 use Rattle.method.specs.OldProgram.{renewal}
 use Rattle.prints.specs.Prints.{largeRoom, oldBuffer}
-use Rattle.session.specs.declared.Written.{Written}
+use Rattle.session_write.specs.declared.Written.{Written}
 
 -- THE PROMISE of `renew`: the answer, the number of bytes and the final output are those of method's `renewal`, with room for so many cells
 pub record RenewOf (room : ℕ) (o : Order) (t : Settings) (bs old : List ℕ) (r : Written) (new : List ℕ) : Type 0 where

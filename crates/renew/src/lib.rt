@@ -10,8 +10,8 @@ use method::Settings;
 use method::Sides;
 use old_read::old_labels;
 use old_read::read_old;
-use session::Written;
-use session::write;
+use session_write::Written;
+use session_write::write;
 
 // An old session that was read is written in the new form: the writer has nothing to refuse.
 fn write_new(

@@ -17,7 +17,7 @@ pub part-long : (n : ℕ) (xs : List ℕ) → n ≤ length xs → n ≡ length (
 part-long n xs h = sym (length-take-le n xs h)
 
 -- the rooms that a program lends, by the cells that it has room for
-pub rooms-for : {room : ℕ} (n : ℕ) → n ≡ room → Roomy room n n (2 * n + 16) (8 * n + 64) (2 * n) (26 * n + 108)
+pub rooms-for : {room : ℕ} (n : ℕ) → n ≡ room → Roomy room n n (2 * n + 16) (8 * n + 64) (2 * n) (26 * n + 160)
 unfolding byteNeed floatNeed wordNeed
 rooms-for n e = record { values-long = omega arith; pressures-long = omega arith; bytes-long = omega arith; floats-long = omega arith; words-long = omega arith; output-long = omega arith }
 

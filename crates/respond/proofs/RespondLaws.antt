@@ -22,7 +22,8 @@ use Rattle.method.specs.Answers.{passed, verdict, refusal, done, filled, byteNe
 use Rattle.method.specs.Calls.{Asked, Reading, lengthsFit, lineCheck, sideCheck, bodyCheck, roomCheck, contentChecks, readerChecks, notRead, isRead, reading, solving}
 use Rattle.method.specs.Program.{programChecks, print, shown, printed}
 use Rattle.method.specs.Program as program
-use Rattle.theory.proofs.Sides.{Fit, fit}
+use Rattle.theory.specs.Sides.{Fit}
+use Rattle.theory.proofs.Sides.{fit}
 use Rattle.theory.proofs.Verdicts.{Judged, fine, faulty, judge, AllPass, all-pass, no-fault, no-fault′}
 use Rattle.theory.proofs.RoundTrip.{read-0}
 use Rattle.header.specs.Lines.{HeaderOf, headerIn}
@@ -30,10 +31,10 @@ use Rattle.header.specs.declared.Header.{Header as Head}
 use Rattle.header.specs.declared.HeaderRead.{HeaderRead}
 use Rattle.header.specs.declared.HeaderRead.the-variants.{Wrong, Named}
 use Rattle.show.specs.Shows.{printRoom, PutShort}
-use Rattle.session.specs.Reads.{ReadOf}
-use Rattle.session.specs.Reads as reads
-use Rattle.session.specs.declared.Session.{Session}
-use Rattle.session.proofs.ReadLaws.{reading-refused, reading-passed}
+use Rattle.session_read.specs.Reads.{ReadOf}
+use Rattle.session_read.specs.Reads as reads
+use Rattle.session_read.specs.declared.Session.{Session}
+use Rattle.session_read.proofs.ReadLaws.{reading-refused, reading-passed}
 use Rattle.rounds.specs.Rounds.{castOf}
 use Rattle.solve.specs.Solve.{asked, SolveOf}
 use Rattle.prints.specs.Prints.{crowded}
@@ -88,7 +89,7 @@ crowded-put bs limit t a ps w u j e q f l p =
 pub not-crowded : (bs : List ℕ) (limit : ℕ) (t : Bool) → t ≡ crowded limit bs → t ≡ false → crowded limit bs ≡ false
 not-crowded bs limit t e q = sym e ∙ q
 
-pub no-room : (limit m : ℕ) → printRoom limit ≤ m → 108 ≤ m
+pub no-room : (limit m : ℕ) → printRoom limit ≤ m → 160 ≤ m
 no-room limit m h = omega arith
 
 pub ruleset responses = (needs, crowded-put, not-crowded, no-room)

@@ -5,7 +5,7 @@ use method::Sides;
 use rounds::Plan;
 
 // The labels of all levels into the room of bytes, and the lists of the cells that are smoothed into the room of words.
-pub(crate) fn prepare(
+pub fn prepare(
     sides: Sides,
     labels: &[u8],
     levels: u32,
@@ -18,7 +18,7 @@ pub(crate) fn prepare(
     let count = levels as usize;
     let l = levels::sides::levels_of(sides);
     levels::labels::all_labels(bytes, labels, l, count);
-    let lists = levels::lists::all_lists(words, &bytes[..], l, count);
+    let lists = bands::lists::all_lists(words, &bytes[..], l, count);
     Plan {
         levels: l,
         lists,
