@@ -17,7 +17,9 @@ ghost use Rattle.old_respond.specs.OldResponds.{OldProgramOf};
 
 // How many cells there is room for: as many as the greatest cast has, by which all that is lent is measured.
 const LIMIT: usize = 32768;
+
 const BUFFER: usize = 3 * LIMIT + 43;
+
 const PRINT: usize = 26 * LIMIT + 256;
 
 // The answer to the session whose front was read into the buffer is put at the front of the output, and its length comes back.
@@ -89,7 +91,14 @@ fn run_large(
     output: &mut [u8; PRINT],
 ) {
     run(
-        settings, input, values, pressures, bytes, floats, words, output,
+        settings,
+        input,
+        values,
+        pressures,
+        bytes,
+        floats,
+        words,
+        output,
     );
 }
 

@@ -20,7 +20,9 @@ ghost use Rattle.renew.specs.Renews.{RenewProgramOf};
 
 // How many cells there is room for: as many as the greatest cast has, by which all that is lent is measured.
 const LIMIT: usize = 32768;
+
 const BUFFER: usize = 3 * LIMIT + 43;
+
 const SESSION: usize = 5 * LIMIT + 95;
 
 // The session whose front was read into the buffer is put in the new form at the front of the output; its answer and its length come back.
@@ -47,13 +49,7 @@ fn refuse(found: Answer) {
 }
 
 // A session is read from standard input, and written in the new form to standard output.
-fn run(
-    order: Order,
-    settings: Settings,
-    input: &mut [u8],
-    values: &mut [i32],
-    output: &mut [u8],
-)
+fn run(order: Order, settings: Settings, input: &mut [u8], values: &mut [i32], output: &mut [u8])
     requires { ⌜ (length (now input) ≡ oldBuffer) × ((length (now values) ≡ largeRoom) × (bufferFor largeRoom ≤ length (now output))) ⌝ }
 {
     let got = io::read_full(STDIN_FILENO, input);
@@ -83,13 +79,7 @@ fn start(order: Order, settings: Settings) {
     let mut input = [0u8; BUFFER];
     let mut values = [0i32; LIMIT];
     let mut output = [0u8; SESSION];
-    run_large(
-        order,
-        settings,
-        &mut input,
-        &mut values,
-        &mut output,
-    );
+    run_large(order, settings, &mut input, &mut values, &mut output);
 }
 
 fn main() {
