@@ -175,6 +175,8 @@ static void answer_lines(quetz_answer a) {
     line("place=", a.place);
     line("rounds=", a.rounds);
     line("worst=", a.worst);
+    line("worstcell=", a.worstcell);
+    printf("worstvalue=%" PRId32 "\n", a.worstvalue);
     line("interior=", a.interior);
     line("depth=", a.depth);
 }
@@ -659,6 +661,8 @@ static int layout(void) {
     PLACE(quetz_answer, place);
     PLACE(quetz_answer, rounds);
     PLACE(quetz_answer, worst);
+    PLACE(quetz_answer, worstcell);
+    PLACE(quetz_answer, worstvalue);
     PLACE(quetz_answer, interior);
     PLACE(quetz_answer, depth);
     SIZE(quetz_session);
@@ -692,7 +696,8 @@ static int layout(void) {
     double floats[112];
     uint32_t words[12];
     quetz_answer a = quetz_solve((quetz_task){{6, 1, 1}, {4, 5, 6}}, labels, 6, sources, 6, pressures, 6, bytes, sizeof bytes, floats, 112, words, 12);
-    printf("solved %u, place %u, rounds %u, worst %u, interior %u, depth %u\n", a.number, a.place, a.rounds, a.worst, a.interior, a.depth);
+    printf("solved %u, place %u, rounds %u, worst %u, worstcell %u, worstvalue %d, interior %u, depth %u\n", a.number, a.place, a.rounds, a.worst, a.worstcell,
+           a.worstvalue, a.interior, a.depth);
     return 0;
 }
 

@@ -13,7 +13,7 @@ use Rattle.laws.proofs.Bools.{so}
 use Rattle.method.specs.declared.Sides.{Sides}
 use Rattle.method.specs.Cast.{cells, number}
 use Rattle.method.specs.Levels.{half, halved}
-use Rattle.theory.proofs.Sides.{Fit}
+use Rattle.theory.specs.Sides.{Fit}
 use Rattle.theory.proofs.Sizes.{halved-fit}
 use Rattle.theory.proofs.Numbers.{number-in, number-coordinates}
 use Rattle.grid.specs.declared.place.Spot.{Spot}

@@ -9,7 +9,8 @@ use Rattle.method.specs.Cast.{cells, labelAt}
 use Rattle.method.specs.Answers.{wordNeed}
 use Rattle.theory.specs.Walks.{Walk}
 use Rattle.theory.specs.Levels.{sidesAt, labelsAt, cellsBefore, airBefore}
-use Rattle.theory.proofs.Sides.{Fit, fits}
+use Rattle.theory.specs.Sides.{Fit}
+use Rattle.theory.proofs.Sides.{fits}
 use Rattle.theory.proofs.Kept.{air-of-six}
 use Rattle.levels.specs.declared.sides.Levels.{Levels}
 use Rattle.levels.specs.Rooms.{written}

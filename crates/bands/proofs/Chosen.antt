@@ -17,7 +17,7 @@ use Rattle.method.specs.declared.Sides.{Sides}
 use Rattle.method.specs.Cast.{cells, number, labelAt, isAir, judged, interior}
 use Rattle.method.specs.Levels.{halved, inBand}
 use Rattle.theory.specs.Waves.{strung, onWave, waveCell, waveLine, waveOf, waves}
-use Rattle.theory.proofs.Sides.{Fit}
+use Rattle.theory.specs.Sides.{Fit}
 use Rattle.theory.proofs.Numbers.{number-in}
 use Rattle.theory.proofs.Children.{band-air}
 use Rattle.theory.proofs.Waves.{waves-length}

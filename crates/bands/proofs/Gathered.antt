@@ -13,7 +13,7 @@ use Rattle.laws.specs.Lists.{tab}
 use Rattle.method.specs.declared.Sides.{Sides}
 use Rattle.method.specs.Cast.{cells, interior}
 use Rattle.theory.specs.Levels.{sidesAt, labelsAt, cellsBefore, airBefore}
-use Rattle.theory.proofs.Sides.{Fit}
+use Rattle.theory.specs.Sides.{Fit}
 use Rattle.theory.proofs.Sizes.{fit-at}
 use Rattle.levels.specs.declared.sides.Levels.{Levels}
 use Rattle.bands.specs.declared.lists.Lists.{Lists}

@@ -12,7 +12,7 @@ use Rattle.laws.specs.Lists.{any}
 use Rattle.method.specs.declared.Sides.{Sides}
 use Rattle.method.specs.Cast.{cells, labelAt, isAir}
 use Rattle.method.specs.Levels.{halved, children, givenTo, hasOther, inBand}
-use Rattle.theory.proofs.Sides.{Fit}
+use Rattle.theory.specs.Sides.{Fit}
 use Rattle.theory.proofs.Sizes.{halved-fit}
 use Rattle.grid.specs.declared.place.Spot.{Spot}
 use Rattle.grid.specs.Place.{SpotOf}

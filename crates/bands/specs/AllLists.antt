@@ -10,7 +10,7 @@ use Rattle.method.specs.declared.Sides.{Sides}
 use Rattle.method.specs.Cast.{cells, interior}
 use Rattle.method.specs.Answers.{byteNeed}
 use Rattle.theory.specs.Levels.{sidesAt, labelsAt, airBefore}
-use Rattle.theory.proofs.Sides.{Fit}
+use Rattle.theory.specs.Sides.{Fit}
 use Rattle.levels.specs.declared.sides.Levels.{Levels}
 use Rattle.bands.specs.declared.lists.Lists.{Lists}
 use Rattle.bands.specs.declared.lists.Gather.{Gather}

@@ -7,7 +7,7 @@ use lib.Dec.{ltb}
 use Rattle.method.specs.declared.Sides.{Sides}
 use Rattle.method.specs.Cast.{cells, number, isAir}
 use Rattle.method.specs.Levels.{halved, hasOther}
-use Rattle.theory.proofs.Sides.{Fit}
+use Rattle.theory.specs.Sides.{Fit}
 use Rattle.grid.specs.declared.place.Spot.{Spot}
 use Rattle.levels.specs.Kin.{Near, childAt, parentAt}
 

@@ -5,7 +5,7 @@ ghost use lib.Dec.{leb};
 ghost use lib.ListN.{length};
 ghost use Rattle.method.specs.Cast.{cells};
 ghost use Rattle.method.specs.Levels.{inBand};
-ghost use Rattle.theory.proofs.Sides.{Fit};
+ghost use Rattle.theory.specs.Sides.{Fit};
 ghost use Rattle.levels.specs.Kin.{Near, Begun, childAt, parentAt, parentSpot, firstChild, childStep};
 ghost use Rattle.levels.specs.Rooms.{some};
 ghost use Rattle.bands.specs.Other.{BandAsked, BlockAsked, AroundAsked, childOther, parentOther, cornerOf};

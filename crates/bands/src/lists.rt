@@ -7,7 +7,7 @@ ghost use Rattle.laws.specs.Lists.{kept, chosen};
 ghost use Rattle.method.specs.Cast.{cells, isAir, interior};
 ghost use Rattle.method.specs.Levels.{inBand};
 ghost use Rattle.theory.specs.Waves.{waveCell, waveLine, waveOf};
-ghost use Rattle.theory.proofs.Sides.{Fit};
+ghost use Rattle.theory.specs.Sides.{Fit};
 ghost use Rattle.grid.specs.Entries.{entryOf};
 ghost use Rattle.bands.specs.Other.{BandAsked};
 ghost use Rattle.levels.specs.Levels.{base};

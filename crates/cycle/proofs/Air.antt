@@ -13,7 +13,7 @@ use Rattle.laws.proofs.Naturals.{le-or-lt}
 use Rattle.method.specs.declared.Sides.{Sides}
 use Rattle.method.specs.Cast.{cells, isAir}
 use Rattle.theory.specs.Waves.{waves}
-use Rattle.theory.proofs.Sides.{Fit}
+use Rattle.theory.specs.Sides.{Fit}
 use Rattle.theory.proofs.Hits.{hits, same-yes, same-no}
 use Rattle.theory.proofs.Orders.{hits-append, hits-at}
 use Rattle.theory.proofs.Children.{band-air}

@@ -19,7 +19,8 @@ use Rattle.method.specs.declared.Sides.{Sides}
 use Rattle.method.specs.Cast.{cells}
 use Rattle.method.specs.Levels.{value}
 use Rattle.theory.specs.Levels.{sidesAt, labelsAt, airBefore}
-use Rattle.theory.proofs.Sides.{Fit, fits}
+use Rattle.theory.specs.Sides.{Fit}
+use Rattle.theory.proofs.Sides.{fits}
 use Rattle.theory.proofs.Sizes.{cells-of-six}
 use Rattle.levels.specs.declared.sides.Levels.{Levels}
 use Rattle.bands.specs.declared.lists.Lists.{Lists}

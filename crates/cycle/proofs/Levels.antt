@@ -22,7 +22,7 @@ use Rattle.method.specs.Cycle.{cycle, coarsest, downstroke, upstroke, corrected
 use Rattle.theory.specs.Levels.{sidesAt, labelsAt, cellsBefore}
 use Rattle.theory.specs.Quiet.{Quiet}
 use Rattle.theory.proofs.Quiet.{quiet-cycle, quiet-corrected}
-use Rattle.theory.proofs.Sides.{Fit}
+use Rattle.theory.specs.Sides.{Fit}
 use Rattle.theory.proofs.Sizes.{fit-at}
 use Rattle.theory.proofs.Kept.{length-kept}
 use Rattle.grid.proofs.Steps.{cells-most}

@@ -9,7 +9,7 @@ use Rattle.method.specs.Cast.{cells}
 use Rattle.method.specs.Levels.{restricted}
 use Rattle.method.specs.Cycle.{cycle, residue, corrected}
 use Rattle.theory.specs.Levels.{sidesAt, labelsAt, cellsBefore}
-use Rattle.theory.proofs.Sides.{Fit}
+use Rattle.theory.specs.Sides.{Fit}
 use Rattle.levels.specs.declared.sides.Levels.{Levels}
 use Rattle.bands.specs.declared.lists.Lists.{Lists}
 use Rattle.levels.specs.Levels.{levelsOf, base, startIn, sidesIn}

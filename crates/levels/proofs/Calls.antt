@@ -12,7 +12,7 @@ use Rattle.method.specs.declared.Sides.{Sides}
 use Rattle.method.specs.Cast.{cells}
 use Rattle.method.specs.Answers.{byteNeed}
 use Rattle.theory.specs.Levels.{sidesAt, labelsAt, cellsBefore}
-use Rattle.theory.proofs.Sides.{Fit}
+use Rattle.theory.specs.Sides.{Fit}
 use Rattle.theory.proofs.Kept.{length-kept}
 use Rattle.levels.specs.declared.sides.Levels.{Levels}
 use Rattle.levels.specs.Rooms.{written}

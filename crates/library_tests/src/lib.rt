@@ -4,7 +4,7 @@ ghost use Prim.Native.Nat.{_-_};
 ghost use lib.ListN.{length};
 ghost use Rattle.method.specs.Cast.{cells};
 ghost use Rattle.method.specs.Cycle.{cycle};
-ghost use Rattle.theory.proofs.Sides.{Fit};
+ghost use Rattle.theory.specs.Sides.{Fit};
 ghost use Rattle.levels.specs.Levels.{base};
 ghost use Rattle.smooth.specs.Fields.{u-of, b-of};
 ghost use Rattle.cycle.specs.Strokes.{Ended};
@@ -100,7 +100,7 @@ fn fitted_cycle(
     if labels.len() != n {
         return 0;
     }
-    if bytes.len() < 2 * n + 16 {
+    if bytes.len() < rooms::byte_need(n) {
         return 0;
     }
     if words.len() < 2 * n + 5 {
