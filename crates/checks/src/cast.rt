@@ -103,7 +103,7 @@ fn bad_value_at(labels: &[u8], values: &[i32], c: usize) -> bool
 }
 
 // The first of n cells whose value is out of its label's range.
-fn bad_value(labels: &[u8], values: &[i32], n: usize) -> Found
+pub fn bad_value(labels: &[u8], values: &[i32], n: usize) -> Found
     requires { ⌜ (n ≤ 32768) × ((n ≤ length (now labels)) × (n ≤ length (now values))) ⌝ }
     ensures { λ r. ⌜ r ≡ first (badValueAt (now (labels .entry)) (now (values .entry))) n ⌝ }
 {

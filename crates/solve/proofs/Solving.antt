@@ -35,7 +35,7 @@ use Rattle.solve.specs.Work.{Checked, fromSeven, Worked}
 use Rattle.solve.proofs.Clears.{cleared-home}
 use Rattle.solve.proofs.Judging.{both}
 
-in-range : (lo hi x : ℕ) → between lo hi x ≡ true → (lo ≤ x) × (x ≤ hi)
+pub in-range : (lo hi x : ℕ) → between lo hi x ≡ true → (lo ≤ x) × (x ≤ hi)
 unfolding between
 in-range lo hi x e = let p = both (leb lo x) (leb x hi) e in (leb-true lo x (p .0), leb-true x hi (p .1))
 
@@ -44,28 +44,28 @@ module _ (a : Asked) where
   abbrev by-checks : Verdict → Solved
   by-checks v = elim v [ refused num place ↦ untouched a (refusal num place) | passed ↦ fromSeven a ]
 
-  past-six : verdict checksBefore7 a ≡ passed → solving a ≡ fromSeven a
+  pub past-six : verdict checksBefore7 a ≡ passed → solving a ≡ fromSeven a
   unfolding solving fromSeven
   past-six e = ap by-checks e
 
-  before-seven : (num place : ℕ) → verdict checksBefore7 a ≡ refused num place → solving a ≡ untouched a (refusal num place)
+  pub before-seven : (num place : ℕ) → verdict checksBefore7 a ≡ refused num place → solving a ≡ untouched a (refusal num place)
   unfolding solving fromSeven
   before-seven num place e = ap by-checks e
 
 -- ---- a part of just the need, lent, come home and cleared
-needed-bytes : (n : ℕ) → 2 * n + 16 ≡ byteNeed n
+pub needed-bytes : (n : ℕ) → 2 * n + 16 ≡ byteNeed n
 unfolding byteNeed
 needed-bytes n = refl
 
-needed-floats : (n : ℕ) → 8 * n + 64 ≡ floatNeed n
+pub needed-floats : (n : ℕ) → 8 * n + 64 ≡ floatNeed n
 unfolding floatNeed
 needed-floats n = refl
 
-needed-words : (n : ℕ) → 2 * n ≡ wordNeed n
+pub needed-words : (n : ℕ) → 2 * n ≡ wordNeed n
 unfolding wordNeed
 needed-words n = refl
 
-home : {A : Type 0} (z : A) (need m : ℕ) (e part : List A) → m ≡ need → m ≤ length e → length part ≡ length (midOf 0 (m - 0) e)
+pub home : {A : Type 0} (z : A) (need m : ℕ) (e part : List A) → m ≡ need → m ≤ length e → length part ≡ length (midOf 0 (m - 0) e)
     → cleared need z (putMid 0 (m - 0) e part) ≡ cleared need z e
 home z need m e part q h k =
     let same : m - 0 ≡ need = omega arith in

@@ -45,7 +45,7 @@ fn clear_words(room: &mut [u32], n: usize)
 }
 
 // All three, for n cells.
-pub(crate) fn clear(bytes: &mut [u8], floats: &mut [f64], words: &mut [u32], n: usize)
+pub fn clear(bytes: &mut [u8], floats: &mut [f64], words: &mut [u32], n: usize)
     requires { ⌜ (n ≤ 32768) × ((byteNeed n ≤ length (now bytes)) × ((floatNeed n ≤ length (now floats)) × (wordNeed n ≤ length (now words)))) ⌝ }
     ensures { λ _. ⌜ now (bytes .exit) ≡ cleared (byteNeed n) 0 (now (bytes .entry)) ⌝ }
     ensures { λ _. ⌜ now (floats .exit) ≡ cleared (floatNeed n) +0 (now (floats .entry)) ⌝ }

@@ -1,7 +1,7 @@
 // The solver's entry point (document 01, "What comes back"): refusals in their order, then three parts: prepare, run, clear.
-mod clear;
+pub mod clear;
 mod judge;
-mod prepare;
+pub mod prepare;
 
 ghost use mathlib.Core.Path.{_≡_};
 ghost use Prim.Native.Nat.{_+_, _*_};
@@ -21,7 +21,7 @@ use prepare::prepare;
 use rounds::Plan;
 
 // One set of values on a prepared cast: the rounds, and the pressures where they are accepted. Labels and lists stay.
-fn run(
+pub fn run(
     sides: Sides,
     labels: &[u8],
     values: &[i32],

@@ -5,7 +5,7 @@ use method::Sides;
 use rounds::Plan;
 
 // The labels of all levels into the room of bytes, and the lists of the cells that are smoothed into the room of words.
-pub(crate) fn prepare(
+pub fn prepare(
     sides: Sides,
     labels: &[u8],
     levels: u32,
