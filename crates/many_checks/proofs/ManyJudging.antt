@@ -49,7 +49,7 @@ module _ (n sets labels : ℕ) (of : Lengths) where
 
       module _ (pa : of .pressures ≡ all) (fs : ℕ) (f : fs ≡ sets * 6) where
         pub answers-wrong : (of .answers ≡ fs → ⊥) → false ≡ lengthsBy n sets labels of
-        unfolding lengthsBy fieldCount
+        unfolding lengthsBy
         answers-wrong h = rw (
           eq-eqb labels n la,
           eq-eqb (of .values) (sets * n) (va ∙ e),
@@ -59,7 +59,7 @@ module _ (n sets labels : ℕ) (of : Lengths) where
 
         module _ (aa : of .answers ≡ fs) where
           rooms-left : lengthsBy n sets labels of ≡ (leb (byteNeed n) (of .bytes) && (leb (floatNeed n) (of .floats) && leb (wordNeed n) (of .words)))
-          unfolding lengthsBy fieldCount
+          unfolding lengthsBy
           rooms-left = rw (
             eq-eqb labels n la,
             eq-eqb (of .values) (sets * n) (va ∙ e),

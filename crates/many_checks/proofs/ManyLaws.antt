@@ -58,7 +58,7 @@ module _ {A : Type 0} where
 
 -- ---- an answer's fields
 pub fields-length : (r : Answer) → length (fields r) ≡ fieldCount
-unfolding fields fieldCount
+unfolding fields
 fields-length r = refl
 
 -- the answer whose fields these are

@@ -41,7 +41,7 @@ fields r =
     ∷ pos (r .depth)
     ∷ []
 
-unfoldable pub fieldCount : ℕ
+abbrev pub fieldCount : ℕ
 fieldCount = 6
 
 -- ---- "its own stretch": stretch s of what is laid end to end, n elements each; and stretches 0 to k - 1 laid so
@@ -133,5 +133,5 @@ solvingMany a =
 
 -- one name that opens this file
 unfoldable pub computing-many : Unit {0}
-unfolding fields fieldCount stretch endToEnd single manyLengthsFit setsFit manyChecksBefore7 manyChecksFrom7 manyUntouched manyHandedBack setPressures setFields solvingMany
+unfolding fields stretch endToEnd single manyLengthsFit setsFit manyChecksBefore7 manyChecksFrom7 manyUntouched manyHandedBack setPressures setFields solvingMany
 computing-many = tt

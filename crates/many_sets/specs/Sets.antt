@@ -58,12 +58,12 @@ pub record Turned (g : Sides) (ls : List ℕ) (vs : List ℤ) (t : Settings) (fr
       → (qs ≡ placed from (cells g) (solving a .pressures) ps) × (ss ≡ placed at fieldCount (fields (solving a .answer)) rs)
 
 -- ---- all sets: a call with this cast and these sets, whatever rooms it has that are long enough
-pub record SameCall (a : AskedMany) (g : Sides) (ls : List ℕ) (vs : List ℤ) (t : Settings) (sets : ℕ) (ps rs : List ℤ) : Type 0 where
+pub record SameCall (a : AskedMany) (g : Sides) (ls : List ℕ) (vs : List ℤ) (t : Settings) (k : ℕ) (ps rs : List ℤ) : Type 0 where
   pub sides : a .sides ≡ g
   pub labels : a .labels ≡ ls
   pub values : a .values ≡ vs
   pub settings : a .settings ≡ t
-  pub sets : a .sets ≡ sets
+  pub sets : a .sets ≡ k
   pub pressures : a .pressures ≡ ps
   pub answers : a .answers ≡ rs
   pub roomy : manyLengthsFit a ≡ true

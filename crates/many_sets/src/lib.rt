@@ -77,7 +77,7 @@ fn take_turn(
     answers: &mut [i64],
 )
     requires { ⌜ CastReady sides (now labels) settings depth plan (now bytes) (now words) (length (now floats)) ⌝ }
-    requires { ⌜ (from + cells sides ≤ length (now values)) × ((from + cells sides ≤ length (now pressures)) × (at + fieldCount ≤ length (now answers))) ⌝ }
+    requires { ⌜ (from + cells sides ≤ length (now values)) × ((from + cells sides ≤ length (now pressures)) × ((at + fieldCount ≤ length (now answers)) × (at ≤ 1000))) ⌝ }
     ensures { λ _. ⌜ Turned sides (now (labels .entry)) (now (values .entry)) settings from at (now (pressures .entry)) (now (answers .entry)) (now (pressures .exit)) (now (answers .exit)) ⌝ }
 {
     let to = from + labels.len();

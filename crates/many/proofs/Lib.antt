@@ -1,0 +1,3 @@
+-- What the proofs of several functions cite, and what the promise comes to.
+pub mod ManyWorking
+pub mod ManySolving

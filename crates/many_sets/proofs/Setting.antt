@@ -1,0 +1,147 @@
+-- One set: its checks, and what its rounds come to, are the single call's. Assumes nothing.
+use Prim.Native.Nat.{ℕ, zero, suc, _+_, _-_, _*_, _^_, _≤_, _<_}
+use mathlib.Core.Path.{_≡_, refl, sym, ap, ap₂, _∙_}
+use mathlib.Core.Bool.{Bool, true, false, not, _&&_, false≢true}
+use mathlib.Core.List.{List, [], _∷_, _++_}
+use native.Mathlib.Omega.{arith}
+use borrow.Author.Needs.{needs}
+use lib.Dec.{leb, eqb}
+use lib.IntN.{ℤ, pos}
+use lib.ListN.{length, set}
+use mir.Syntax.{w64}
+use mir.Val.{toZ}
+use mir.Facts.{toZ-pos}
+use Rattle.method.specs.declared.Sides.{Sides}
+use Rattle.method.specs.declared.Settings.{Settings}
+use Rattle.method.specs.declared.Answer.{Answer}
+use Rattle.method.specs.declared.Found.{Found}
+use Rattle.method.specs.declared.Found.the-variants.{Nowhere, At}
+use Rattle.method.specs.Cast.{depth as Cast·depth}
+use Rattle.method.specs.Cast.{Cast, cells, sealed, first, between, sidesFit, settingsFit, badLabel, badValue, interior}
+use Rattle.method.specs.Answers.{Verdict, passed, refused, verdict, refusal, fault, floatNeed}
+use Rattle.method.specs.Calls.{Asked, Solved, lengthsFit, checksBefore7, untouched, handedBack, solving, labelFault, valueFault}
+use Rattle.theory.proofs.Sides.{Fit, fit}
+use Rattle.theory.proofs.Verdicts.{AllPass, pass-all, no-fault-in}
+use Rattle.grid.proofs.Steps.{cells-most}
+use Rattle.checks.specs.Faults.{badValueAt}
+use Rattle.checks.proofs.RuleLaws.{fails-at, passes-on, fault-no}
+use Rattle.checks.proofs.CheckLaws.{value-fault}
+use Rattle.rounds.specs.declared.Plan.{Plan}
+use Rattle.rounds.specs.Rounds.{castOf}
+use Rattle.solve.specs.Work.{PlanOf, RunAsked, Ran, Worked, fromSeven}
+use Rattle.solve.proofs.Working.{worked-run}
+use Rattle.solve.proofs.Judging.{both}
+use Rattle.solve.proofs.Solving.{in-range, past-six, before-seven}
+use Rattle.many_checks.specs.Many.{fields, fieldCount}
+use Rattle.many_sets.specs.Sets.{Past, CastReady, SameSet, SetOf}
+
+-- ---- what the rounds ask
+module _ (t : Settings) (e : settingsFit t ≡ true) where
+  tolerance-known : t .tolerance ≤ 1000000
+  unfolding settingsFit
+  tolerance-known = in-range 0 1000000 (t .tolerance) (both (between 0 1000000 (t .tolerance)) _ e .0) .1
+
+  rounds-known : t .rounds ≤ 1000
+  unfolding settingsFit
+  rounds-known = in-range 0 1000 (t .rounds) (both (between 1 6 (t .levels)) (between 0 1000 (t .rounds)) (both (between 0 1000000 (t .tolerance)) _ e .1) .1) .1
+
+pub ready-run : {g : Sides} {ls : List ℕ} {t : Settings} {depth : ℕ} {plan : Plan} {bytes words : List ℕ} {floats : ℕ}
+    → CastReady g ls t depth plan bytes words floats → (vs : List ℤ) (pressures : ℕ) → length vs ≡ cells g → pressures ≡ cells g
+    → RunAsked g ls vs t plan bytes words floats pressures
+unfolding floatNeed
+ready-run {g} {ls} {t} z vs pressures ev ep = record {
+  ready = record {
+    planned = record {
+      prepared = record { levels = z .planned .prepared; size = ap cells (sym (z .planned .sides)); roomy = omega (arith, z .floats-long) };
+      sides = z .planned .sides;
+      labels = z .planned .labels;
+      labelled = z .past .labelled;
+    };
+    valued = ev;
+    levels = z .planned .count;
+    tolerance = tolerance-known t (z .past .settings);
+    limit = rounds-known t (z .past .settings);
+  };
+  pressed = ep;
+}
+
+pub value-asked : {g : Sides} {ls : List ℕ} {t : Settings} {depth : ℕ} {plan : Plan} {bytes words : List ℕ} {floats : ℕ}
+    → CastReady g ls t depth plan bytes words floats → (vs : List ℤ) → length vs ≡ cells g
+    → (length ls ≤ 32768) × ((length ls ≤ length ls) × (length ls ≤ length vs))
+value-asked {g} z vs e =
+    let most : cells g ≤ 32768 = cells-most g (fit g (z .past .sides)) in
+    (omega (arith, z .past .labelled), (omega arith, omega (arith, z .past .labelled)))
+
+-- ---- the single call's checks, of a set on a cast that passed the whole call's
+module _ (g : Sides) (ls : List ℕ) (vs : List ℤ) (t : Settings) (ps : List ℤ) (p : Past g ls t) (a : Asked) (q : SameSet a g ls vs t ps) where
+  sides-pass : fault (not (sidesFit (a .cast .sides))) ≡ Nowhere
+  sides-pass = fault-no _ (ap (λ (k : Cast). sidesFit (k .sides)) (q .cast) ∙ p .sides)
+
+  lengths-pass : fault (not (lengthsFit a)) ≡ Nowhere
+  lengths-pass = fault-no _ (q .roomy)
+
+  settings-pass : fault (not (settingsFit (a .settings))) ≡ Nowhere
+  settings-pass = fault-no _ (ap settingsFit (q .settings) ∙ p .settings)
+
+  labels-pass : labelFault (a .cast) ≡ Nowhere
+  labels-pass = ap (λ (k : Cast). labelFault k) (q .cast) ∙ p .labels
+
+  air-pass : fault (eqb (interior (a .cast .sides) (a .cast .labels)) 0) ≡ Nowhere
+  unfolding fault
+  air-pass = ap (λ (k : Cast). fault (eqb (interior (k .sides) (k .labels)) 0)) (q .cast) ∙ ap fault (p .air)
+
+  -- check 5 fails: the set's answer is 5, its pressures untouched
+  pub five-fails : (place : ℕ) → badValue g ls vs ≡ At place → verdict checksBefore7 a ≡ refused 5 place
+  unfolding checksBefore7
+  five-fails place e =
+      passes-on _ _ a sides-pass ∙ passes-on _ _ a lengths-pass ∙ passes-on _ _ a settings-pass ∙ passes-on _ _ a labels-pass
+      ∙ fails-at _ _ a place (ap (λ (k : Cast). valueFault k) (q .cast) ∙ e)
+
+  pub five-passes : badValue g ls vs ≡ Nowhere → verdict checksBefore7 a ≡ passed
+  unfolding checksBefore7
+  five-passes e = pass-all _ a (sides-pass, (lengths-pass, (settings-pass, (labels-pass, (ap (λ (k : Cast). valueFault k) (q .cast) ∙ e, (air-pass, tt))))))
+
+module _ (g : Sides) (ls : List ℕ) (vs : List ℤ) (t : Settings) (ps : List ℤ) (p : Past g ls t) (n : ℕ) (w : Found) (e : w ≡ first (badValueAt ls vs) n) (en : n ≡ cells g) where
+  found : w ≡ badValue g ls vs
+  found = e ∙ ap (first (badValueAt ls vs)) en ∙ sym (value-fault g ls vs)
+
+  pub set-refused : (place : ℕ) (r : Answer) → w ≡ At place → r ≡ refusal 5 place → SetOf g ls vs t ps r ps
+  unfolding untouched
+  set-refused place r h q = record {
+    is = λ a z.
+        let s : solving a ≡ untouched a (refusal 5 place) = before-seven a 5 place (five-fails g ls vs t ps p a z place (sym found ∙ h)) in
+        (q ∙ sym (ap (λ (x : Solved). x .answer) s), sym (z .pressures) ∙ sym (ap (λ (x : Solved). x .pressures) s));
+  }
+
+  pub set-run : (d : ℕ) (r : Answer) (qs : List ℤ) → w ≡ Nowhere → d ≡ Cast·depth g ls → Ran (castOf g ls vs) t d ps r qs → SetOf g ls vs t ps r qs
+  unfolding handedBack
+  set-run d r qs h ed ran = record {
+    is = λ a z.
+        let worked : Worked (castOf g ls vs) t ps r qs = worked-run g ls vs t ps r (sealed g ls) refl qs d (p .none-sealed) ed ran in
+        let s : solving a ≡ handedBack a r qs = past-six a (five-passes g ls vs t ps p a z (sym found ∙ h)) ∙ worked .is a (z .cast) (z .settings) (z .pressures) in
+        (sym (ap (λ (x : Solved). x .answer) s), sym (ap (λ (x : Solved). x .pressures) s));
+  }
+
+pub ruleset setting = (needs, ready-run, set-refused, set-run)
+
+-- ---- an answer's fields, stored one after the other
+stored : (l : List ℤ) (a b c d e f : ℤ) → length l ≡ fieldCount → set (set (set (set (set (set l 0 a) 1 b) 2 c) 3 d) 4 e) 5 f ≡ a ∷ b ∷ c ∷ d ∷ e ∷ f ∷ []
+stored [] a b c d e f h = absurd (omega arith)
+stored (u ∷ []) a b c d e f h = absurd (omega arith)
+stored (u ∷ v ∷ []) a b c d e f h = absurd (omega arith)
+stored (u ∷ v ∷ w ∷ []) a b c d e f h = absurd (omega arith)
+stored (u ∷ v ∷ w ∷ x ∷ []) a b c d e f h = absurd (omega arith)
+stored (u ∷ v ∷ w ∷ x ∷ y ∷ []) a b c d e f h = absurd (omega arith)
+stored (u ∷ v ∷ w ∷ x ∷ y ∷ z ∷ []) a b c d e f h = refl
+stored (u ∷ v ∷ w ∷ x ∷ y ∷ z ∷ q ∷ l) a b c d e f h = absurd (omega arith)
+
+small : (n : ℕ) → n < 2 ^ 32 → toZ w64 n ≡ pos n
+small n h = toZ-pos w64 (omega arith)
+
+pub fields-stored : (l : List ℤ) (r : Answer) → length l ≡ fieldCount
+    → r .number < 2 ^ 32 → r .place < 2 ^ 32 → r .rounds < 2 ^ 32 → r .worst < 2 ^ 32 → r .interior < 2 ^ 32 → r .depth < 2 ^ 32
+    → set (set (set (set (set (set l 0 (toZ w64 (r .number))) 1 (toZ w64 (r .place))) 2 (toZ w64 (r .rounds))) 3 (toZ w64 (r .worst))) 4 (toZ w64 (r .interior))) 5 (toZ w64 (r .depth)) ≡ fields r
+unfolding fields
+fields-stored l r h a b c d e f =
+    stored l _ _ _ _ _ _ h
+    ∙ ap₂ _∷_ (small (r .number) a) (ap₂ _∷_ (small (r .place) b) (ap₂ _∷_ (small (r .rounds) c) (ap₂ _∷_ (small (r .worst) d) (ap₂ _∷_ (small (r .interior) e) (ap₂ _∷_ (small (r .depth) f) refl)))))
