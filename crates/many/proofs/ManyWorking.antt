@@ -44,6 +44,9 @@ not-so : (b : Bool) → b ≡ false → T b → ⊥
 not-so true e h = false≢true (sym e)
 not-so false e h = h
 
+enough : {A : Type 0} (n : ℕ) (x : A) → leb n (length (replicate n x)) ≡ true
+enough n x = le-leb n (length (replicate n x)) (omega (arith, length-replicate n x))
+
 no-size : (w : ℕ) → ltb w 0 ≡ false
 no-size w = le-ltb w 0 (omega arith)
 
@@ -66,9 +69,9 @@ module _ (g : Sides) (ls : List ℕ) (t : Settings) (p : Past g ls t) where
   lengths-still = rw (
     eq-eqb (length ls) (cells g) (p .labelled),
     eq-eqb (length zeros) (cells g) (length-replicate (cells g) (pos 0)),
-    le-leb (byteNeed (cells g)) (length (replicate (byteNeed (cells g)) 0)) (omega (arith, length-replicate {A = ℕ} (byteNeed (cells g)) 0)),
-    le-leb (floatNeed (cells g)) (length (replicate (floatNeed (cells g)) +0)) (omega (arith, length-replicate (floatNeed (cells g)) +0)),
-    le-leb (wordNeed (cells g)) (length (replicate (wordNeed (cells g)) 0)) (omega (arith, length-replicate {A = ℕ} (wordNeed (cells g)) 0)),
+    enough {A = ℕ} (byteNeed (cells g)) 0,
+    enough (floatNeed (cells g)) +0,
+    enough {A = ℕ} (wordNeed (cells g)) 0,
   )
 
   no-bad-value : badValue g ls zeros ≡ Nowhere

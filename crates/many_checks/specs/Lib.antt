@@ -1,3 +1,4 @@
 -- What the contracts of this crate cite, beside the meaning in method.
 pub mod Many
 pub mod ManyRulings
+pub mod ManyAnswered
