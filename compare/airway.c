@@ -53,6 +53,8 @@ typedef struct {
     int number;
     long place, rounds;
     int64_t worst;
+    long worst_cell;        /* document 02, wish 5 */
+    int64_t worst_value;
     long interior, depth;
 } Answer;
 
@@ -826,6 +828,20 @@ static void update(const Level *l, double alpha)
     }
 }
 
+/* Document 02, wish 5: "the first air cell with the greatest absolute residual and that residual with its sign". */
+static void find_worst(const Level *cast, const int64_t *values, Answer *answer)
+{
+    for (int cell = cast->cells - 1; cell >= 0; cell--) {
+        if (cast->label[cell] != AIR)
+            continue;
+        int64_t residual = exact_residual(cast, values, pressures, cell);
+        if (residual == answer->worst || residual == -answer->worst) {
+            answer->worst_cell = cell;
+            answer->worst_value = residual;
+        }
+    }
+}
+
 /* From the first test to answer 0, 8 or 9. */
 static Answer run_rounds(const Session *session, long interior, long depth)
 {
@@ -847,6 +863,7 @@ static Answer run_rounds(const Session *session, long interior, long depth)
         answer.rounds++;
     }
     answer.worst = worst;
+    find_worst(cast, session->values, &answer);
     return answer;
 }
 
@@ -879,6 +896,8 @@ static void print_answer(const Answer *answer)
     printf("place=%ld\n", answer->place);
     printf("rounds=%ld\n", answer->rounds);
     printf("worst=%" PRId64 "\n", answer->worst);
+    printf("worstcell=%ld\n", answer->worst_cell);
+    printf("worstvalue=%" PRId64 "\n", answer->worst_value);
     printf("interior=%ld\n", answer->interior);
     printf("depth=%ld\n", answer->depth);
 }
@@ -1187,7 +1206,7 @@ enum {
     M_LABELS, M_VALUES, M_PRESSURES, M_ANSWERS, M_BYTES, M_FLOATS, M_WORDS, MANY_HEAD
 };
 
-enum { FIELDS = 6, MOST_SETS = 64, MOST_SET_CELLS = 65 * MAX_CELLS + 1 };
+enum { FIELDS = 8, MOST_SETS = 64, MOST_SET_CELLS = 65 * MAX_CELLS + 1 };
 
 #define UNANSWERED INT64_C(-4567890123456)  /* what the answers hold before a call */
 
@@ -1199,7 +1218,8 @@ static const size_t most_many[MANY_HEAD] = {
 /* "All fields of each set's answer, in 01's order" */
 static void store_fields(const Answer *answer, int64_t fields[FIELDS])
 {
-    const int64_t all[FIELDS] = {answer->number, answer->place, answer->rounds, answer->worst, answer->interior, answer->depth};
+    const int64_t all[FIELDS] = {answer->number, answer->place, answer->rounds, answer->worst, answer->worst_cell, answer->worst_value,
+                                   answer->interior, answer->depth};
     memcpy(fields, all, sizeof all);
 }
 

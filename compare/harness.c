@@ -176,6 +176,8 @@ static void answer_lines(quetz_answer a) {
     line("place=", a.place);
     line("rounds=", a.rounds);
     line("worst=", a.worst);
+    line("worstcell=", a.worstcell);
+    printf("worstvalue=%" PRId32 "\n", a.worstvalue);
     line("interior=", a.interior);
     line("depth=", a.depth);
 }
@@ -349,7 +351,7 @@ static int edges(void) {
 
 /* ---------------------------------------------------------------- many */
 
-enum { MANY_HEAD = 14, FIELDS = 6, MOST_SET_CELLS = 65 * MOST_CELLS + 1 };
+enum { MANY_HEAD = 14, FIELDS = 8, MOST_SET_CELLS = 65 * MOST_CELLS + 1 };
 
 #define ANSWER_PATTERN INT64_C(-4567890123456)
 
@@ -366,7 +368,7 @@ static bool single_agrees(quetz_task task, const uint8_t *labels, const int32_t 
         r.pressures[i] = PRESSURE_PATTERN;
     }
     quetz_answer a = quetz_solve(task, labels, n, values, n, r.pressures, n, r.bytes, bytes, r.floats, floats, r.words, words);
-    const int64_t own[FIELDS] = {a.number, a.place, a.rounds, a.worst, a.interior, a.depth};
+    const int64_t own[FIELDS] = {a.number, a.place, a.rounds, a.worst, a.worstcell, a.worstvalue, a.interior, a.depth};
     bool agrees = memcmp(own, fields, sizeof own) == 0 && memcmp(r.pressures, pressures, n * sizeof(int64_t)) == 0;
     free(r.pressures);
     free(r.bytes);
@@ -753,6 +755,8 @@ static int layout(void) {
     PLACE(quetz_answer, place);
     PLACE(quetz_answer, rounds);
     PLACE(quetz_answer, worst);
+    PLACE(quetz_answer, worstcell);
+    PLACE(quetz_answer, worstvalue);
     PLACE(quetz_answer, interior);
     PLACE(quetz_answer, depth);
     SIZE(quetz_session);
@@ -786,7 +790,8 @@ static int layout(void) {
     double floats[112];
     uint32_t words[12];
     quetz_answer a = quetz_solve((quetz_task){{6, 1, 1}, {4, 5, 6}}, labels, 6, sources, 6, pressures, 6, bytes, sizeof bytes, floats, 112, words, 12);
-    printf("solved %u, place %u, rounds %u, worst %u, interior %u, depth %u\n", a.number, a.place, a.rounds, a.worst, a.interior, a.depth);
+    printf("solved %u, place %u, rounds %u, worst %u, worstcell %u, worstvalue %d, interior %u, depth %u\n", a.number, a.place, a.rounds, a.worst, a.worstcell,
+           a.worstvalue, a.interior, a.depth);
     return 0;
 }
 

@@ -31,27 +31,29 @@ quetz_settings.rounds at 8 of 4
 quetz_task has 24
 quetz_task.sides at 0 of 12
 quetz_task.settings at 12 of 12
-quetz_answer has 24
+quetz_answer has 32
 quetz_answer.number at 0 of 4
 quetz_answer.place at 4 of 4
 quetz_answer.rounds at 8 of 4
 quetz_answer.worst at 12 of 4
-quetz_answer.interior at 16 of 4
-quetz_answer.depth at 20 of 4
-quetz_session has 64
-quetz_session.answer at 0 of 24
-quetz_session.sides at 24 of 12
-quetz_session.order at 36 of 4
-quetz_session.settings at 40 of 12
-quetz_session.start at 56 of 8
-quetz_old_session has 48
-quetz_old_session.answer at 0 of 24
-quetz_old_session.sides at 24 of 12
-quetz_old_session.unit at 36 of 4
-quetz_old_session.start at 40 of 8
-quetz_written has 32
-quetz_written.answer at 0 of 24
-quetz_written.count at 24 of 8
+quetz_answer.worstcell at 16 of 4
+quetz_answer.worstvalue at 20 of 4
+quetz_answer.interior at 24 of 4
+quetz_answer.depth at 28 of 4
+quetz_session has 72
+quetz_session.answer at 0 of 32
+quetz_session.sides at 32 of 12
+quetz_session.order at 44 of 4
+quetz_session.settings at 48 of 12
+quetz_session.start at 64 of 8
+quetz_old_session has 56
+quetz_old_session.answer at 0 of 32
+quetz_old_session.sides at 32 of 12
+quetz_old_session.unit at 44 of 4
+quetz_old_session.start at 48 of 8
+quetz_written has 40
+quetz_written.answer at 0 of 32
+quetz_written.count at 32 of 8
 read 0: sides 2 3 1, order 1, settings 4 5 6, start 58
 read 10, place 2
 written 0, count 88
@@ -86,8 +88,8 @@ def header_differs(compiler, folder):
 def solved_by(program):
     """The last line of the layout run, by the separate implementation."""
     session = generate.session_bytes(6, 1, 1, "big", 4, 5, 6, [1, 0, 0, 0, 0, 0], [1000, -7, 3, 0, 5, 9])
-    fields = dict(line.split("=") for line in programs.run([program], session).split("\n")[:6])
-    return "solved {answer}, place {place}, rounds {rounds}, worst {worst}, interior {interior}, depth {depth}\n".format(**fields)
+    fields = dict(line.split("=") for line in programs.run([program], session).split("\n")[:8])
+    return "solved {answer}, place {place}, rounds {rounds}, worst {worst}, worstcell {worstcell}, worstvalue {worstvalue}, interior {interior}, depth {depth}\n".format(**fields)
 
 
 def example_differs(compiler, folder, runs):

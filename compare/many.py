@@ -15,7 +15,7 @@ import programs
 
 AIR, OPENING, WALL = generate.AIR, generate.OPENING, generate.WALL
 GREATEST_WORD = 2 ** 32 - 1
-FIELDS = 6
+FIELDS = 8
 LENT = ("labels", "values", "pressures", "answers", "bytes", "binary64", "u32")
 MOST = (32769, 65 * 32768 + 1, 65 * 32768 + 1, 1000, 65553, 262209, 65537)
 HEAD = 56

@@ -22,8 +22,9 @@ static uint8_t *read_file(const char *path, size_t *length) {
 }
 
 static void print(quetz_answer a, const int64_t *pressures, size_t cells) {
-    printf("answer=%" PRIu32 "\nplace=%" PRIu32 "\nrounds=%" PRIu32 "\nworst=%" PRIu32 "\ninterior=%" PRIu32 "\ndepth=%" PRIu32 "\n",
-           a.number, a.place, a.rounds, a.worst, a.interior, a.depth);
+    printf("answer=%" PRIu32 "\nplace=%" PRIu32 "\nrounds=%" PRIu32 "\nworst=%" PRIu32 "\n", a.number, a.place, a.rounds, a.worst);
+    printf("worstcell=%" PRIu32 "\nworstvalue=%" PRId32 "\ninterior=%" PRIu32 "\ndepth=%" PRIu32 "\n",
+           a.worstcell, a.worstvalue, a.interior, a.depth);
     for (size_t c = 0; a.number == 0 && c < cells; c++) {
         printf("cell=%" PRId64 "\n", pressures[c]);
     }

@@ -22,7 +22,8 @@ class Task(ctypes.Structure):
 
 
 class Answer(ctypes.Structure):
-    _fields_ = [(name, WORD) for name in ("number", "place", "rounds", "worst", "interior", "depth")]
+    _fields_ = [(name, WORD) for name in ("number", "place", "rounds", "worst", "worstcell")]
+    _fields_ += [("worstvalue", INT32), ("interior", WORD), ("depth", WORD)]
 
 
 class Session(ctypes.Structure):

@@ -39,7 +39,7 @@ typedef struct { uint32_t tolerance, levels, rounds; } quetz_settings;
 typedef struct { quetz_sides sides; quetz_settings settings; } quetz_task;
 
 /* number  given when                                            also set
- *  0      accepted (or read, or written)                        rounds, worst, interior, depth (by the solver)
+ *  0      accepted (or read, or written)                        all but number and place (by the solver)
  *  1      a side is not 1 to 32
  *  2      a slice has the wrong length or a room is short
  *  3      a setting is out of range (or the writer's order)
@@ -53,11 +53,12 @@ typedef struct { quetz_sides sides; quetz_settings settings; } quetz_task;
  * 11      the body is not 5 bytes a cell (of the old form, 3)
  * 13      a value cannot be written in that unit                 place: the first such cell
  *
- * worst is the greatest absolute residual of the pressures handed back, interior the number of air cells, depth the greatest
+ * worst is the greatest absolute residual of the pressures handed back, worstcell the first air cell that has it,
+ * worstvalue the residual there with its sign, interior the number of air cells, depth the greatest
  * over air cells of the least number of face steps through air to an opening. Fields not named are 0. 8 and 9 do not say
  * that there is no solution. Of an accepted answer it is proved: where the exact solution is y, at each air cell
  * |pressure - y| <= worst * interior * depth. */
-typedef struct { uint32_t number, place, rounds, worst, interior, depth; } quetz_answer;
+typedef struct { uint32_t number, place, rounds, worst, worstcell; int32_t worstvalue; uint32_t interior, depth; } quetz_answer;
 
 /* What is read of a session. order is 0 for big, 1 for little. The labels are the cells' bytes at session + start. On a
  * refusal every field but answer is 0. */
@@ -81,8 +82,9 @@ quetz_answer quetz_solve(quetz_task task,
                          double *floats, size_t floats_length,
                          uint32_t *words, size_t words_length);
 
-/* How many signed 64-bit numbers an answer has as its fields: number, place, rounds, worst, interior, depth, in this order. */
-#define QUETZ_FIELDS 6
+/* How many signed 64-bit numbers an answer has as its fields: number, place, rounds, worst, worstcell, worstvalue,
+ * interior, depth, in this order. */
+#define QUETZ_FIELDS 8
 
 /* Solves one cast with many sets of values, 1 to 64, laid end to end: set s has the cells' values from values + s * cells on, its
  * pressures from pressures + s * cells on, and its answer's fields from answers + s * QUETZ_FIELDS on. The labels are checked

@@ -6,7 +6,7 @@ sys.dont_write_bytecode = True
 import form
 
 LINES = {
-    0: "accepted: every exact residual is within the tolerance, the worst is {worst}; {interior} air cells, depth {depth}, {rounds} rounds.\n"
+    0: "accepted: every exact residual is within the tolerance, the worst is {worstvalue} at cell {at}; {interior} air cells, depth {depth}, {rounds} rounds.\n"
        "Each pressure is proved to be within {bound} ticks of the exact one (worst · interior · depth).",
     1: "a side is not 1 to 32.",
     2: "the cast has more cells than there is room for: 1,000, or 32,768 with --large.",
@@ -43,7 +43,7 @@ def explained(fields, whole):
     named = sides(whole)
     cell = form.spoken(named, place) if number in form.AT_CELL and named is not None else str(place)
     said = LINES.get(number, "docs/ANSWERS.md says what it means.")
-    text = said.format(**dict(fields, cell=cell, bound=form.bound(fields), why=why(whole) if number in (10, 11) else ""))
+    text = said.format(**dict(fields, cell=cell, at=form.spoken(named, fields["worstcell"]) if number == 0 else "", bound=form.bound(fields), why=why(whole) if number in (10, 11) else ""))
     return f"answer={number}: {text}"
 
 

@@ -25,7 +25,7 @@ sys.dont_write_bytecode = True
 import form
 
 # The columns in their order: those that the print has by the print's own names. A field that the print gains is one name here.
-PRINTED = ("rounds", "worst", "interior", "depth")
+PRINTED = ("rounds", "worst", "worstcell", "worstvalue", "interior", "depth")
 COLUMNS = ("file", "sides", "order", "answer", "words", "place", *PRINTED, "bound", "least", "greatest")
 
 
@@ -67,7 +67,7 @@ def row(path, large):
     number = fields["answer"]
     cells = {"file": path, "sides": "x".join(map(str, sides)) if sides else "", "order": order, "answer": number, "words": words(number, whole), "place": place(fields, sides)}
     if number in (0, 8, 9):
-        cells.update((name, fields[name]) for name in PRINTED if name in fields and (number == 0 or name != "worst"))
+        cells.update((name, fields[name]) for name in PRINTED if name in fields and (number == 0 or not name.startswith("worst")))
     if number == 0:
         open_air = [pressure for pressure, label in zip(pressures, form.read(whole).labels) if label != form.WALL]
         cells.update(bound=form.bound(fields), least=min(open_air), greatest=max(open_air))

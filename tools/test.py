@@ -274,7 +274,7 @@ class Table(Case):
         self.assertEqual([row["answer"] for row in rows], ["0", "7", "11", "10", "2", "9"])
         self.assertEqual([row["place"] for row in rows], ["", "(3,0,0)", "", "line 1", "", ""])
         self.assertEqual([rows[0][name] for name in ("sides", "order", "words", "rounds", "worst", "bound", "least", "greatest")], ["3x1x1", "big", "accepted", "1", "0", "0", "10", "20"])
-        self.assertTrue(all(row[name] == "" for row in rows[1:] for name in ("bound", "least", "greatest", "worst")))
+        self.assertTrue(all(row[name] == "" for row in rows[1:] for name in ("bound", "least", "greatest", "worst", "worstcell", "worstvalue")))
         self.assertIn("CR LF", rows[3]["words"])
         self.assertEqual((rows[3]["sides"], rows[5]["rounds"]), ("", "1"))
         self.assertIn("table: 6 of 6", errors)

@@ -48,7 +48,7 @@ fn main() {
     let mut bytes = [0u8; 2 * LIMIT + 16];
     let mut floats = [0.0f64; 8 * LIMIT + 64];
     let mut words = [0u32; 2 * LIMIT];
-    let mut output = [0u8; 26 * LIMIT + 108];
+    let mut output = [0u8; 26 * LIMIT + 160];
     let got = io::read_full(STDIN_FILENO, &mut input);
     let count = answer(
         &input,

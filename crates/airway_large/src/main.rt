@@ -1,15 +1,25 @@
 // The program for the greatest casts: one session on standard input, its answer on standard output, as document 01's program prints it, with rooms for 32,768 cells.
-// An input may have any length: a header has at most 94 bytes and a body 163,840, so one byte more than both shows that it is too long, and no more are read.
+// An input may have any length: its first 163,935 bytes decide what is printed (`front-is-enough-for`, crates/prints), so no more are read.
 use libc::STDIN_FILENO;
 use libc::STDOUT_FILENO;
 use respond::respond;
-ghost use lib.ListN.{length};
-ghost use Rattle.respond.specs.Responds.{Roomy};
-ghost use Rattle.airway_large.specs.Large.{LargeOf};
+ghost use mathlib.Core.Path.{_≡_};
+ghost use Prim.Native.Nat.{_≤_};
+ghost use lib.ListN.{length, take};
+ghost use Rattle.prints.specs.Prints.{bufferFor, largeRoom};
+ghost use Rattle.respond.specs.Responds.{Roomy, FrontOf};
 
-// The answer to the session whose front is handed in is put at the front of the output, and its length comes back.
+// How many cells there is room for: as many as the greatest cast has, by which all that is lent is measured.
+const LIMIT: usize = 32768;
+
+const BUFFER: usize = 5 * LIMIT + 95;
+
+const PRINT: usize = 26 * LIMIT + 160;
+
+// The answer to the session whose front was read into the buffer is put at the front of the output, and its length comes back.
 fn answer(
-    input: &[u8],
+    buffer: &[u8],
+    got: usize,
     values: &mut [i32],
     pressures: &mut [i64],
     bytes: &mut [u8],
@@ -17,12 +27,13 @@ fn answer(
     words: &mut [u32],
     output: &mut [u8],
 ) -> usize
-    requires { ⌜ Roomy 32768 (length (now values)) (length (now pressures)) (length (now bytes)) (length (now floats)) (length (now words)) (length (now output)) ⌝ }
-    ensures { λ r. ⌜ LargeOf (now (input .entry)) (now (output .entry)) (now (output .exit)) r ⌝ }
+    requires { ⌜ (length (now buffer) ≡ bufferFor largeRoom) × (got ≤ length (now buffer)) ⌝ }
+    requires { ⌜ Roomy largeRoom (length (now values)) (length (now pressures)) (length (now bytes)) (length (now floats)) (length (now words)) (length (now output)) ⌝ }
+    ensures { λ r. ⌜ FrontOf largeRoom (take got (now (buffer .entry))) (now (output .entry)) (now (output .exit)) r ⌝ }
 {
     respond(
-        input,
-        32768,
+        &buffer[..got],
+        LIMIT,
         values,
         pressures,
         bytes,
@@ -32,9 +43,9 @@ fn answer(
     )
 }
 
-// The same, written to standard output.
-fn put(
-    input: &[u8],
+// A session is read from standard input, and its answer written to standard output.
+fn run(
+    input: &mut [u8],
     values: &mut [i32],
     pressures: &mut [i64],
     bytes: &mut [u8],
@@ -42,36 +53,37 @@ fn put(
     words: &mut [u32],
     output: &mut [u8],
 )
-    requires { ⌜ Roomy 32768 (length (now values)) (length (now pressures)) (length (now bytes)) (length (now floats)) (length (now words)) (length (now output)) ⌝ }
+    requires { ⌜ length (now input) ≡ bufferFor largeRoom ⌝ }
+    requires { ⌜ Roomy largeRoom (length (now values)) (length (now pressures)) (length (now bytes)) (length (now floats)) (length (now words)) (length (now output)) ⌝ }
 {
-    let count = answer(input, values, pressures, bytes, floats, words, output);
+    let got = io::read_full(STDIN_FILENO, input);
+    let count = answer(input, got, values, pressures, bytes, floats, words, output);
     io::write_all(STDOUT_FILENO, &output[..count]);
 }
 
-// The same, in rooms for 32,768 cells by their types.
-fn put_large(
-    input: &[u8],
-    values: &mut [i32; 32768],
-    pressures: &mut [i64; 32768],
-    bytes: &mut [u8; 65552],
-    floats: &mut [f64; 262208],
-    words: &mut [u32; 65536],
-    output: &mut [u8; 852076],
+// The same, in a buffer and rooms for 32,768 cells by their types.
+fn run_large(
+    input: &mut [u8; BUFFER],
+    values: &mut [i32; LIMIT],
+    pressures: &mut [i64; LIMIT],
+    bytes: &mut [u8; 2 * LIMIT + 16],
+    floats: &mut [f64; 8 * LIMIT + 64],
+    words: &mut [u32; 2 * LIMIT],
+    output: &mut [u8; PRINT],
 ) {
-    put(input, values, pressures, bytes, floats, words, output);
+    run(input, values, pressures, bytes, floats, words, output);
 }
 
 fn main() {
-    let mut input = [0u8; 163935];
-    let mut values = [0i32; 32768];
-    let mut pressures = [0i64; 32768];
-    let mut bytes = [0u8; 65552];
-    let mut floats = [0.0f64; 262208];
-    let mut words = [0u32; 65536];
-    let mut output = [0u8; 852076];
-    let got = io::read_full(STDIN_FILENO, &mut input);
-    put_large(
-        &input[..got],
+    let mut input = [0u8; BUFFER];
+    let mut values = [0i32; LIMIT];
+    let mut pressures = [0i64; LIMIT];
+    let mut bytes = [0u8; 2 * LIMIT + 16];
+    let mut floats = [0.0f64; 8 * LIMIT + 64];
+    let mut words = [0u32; 2 * LIMIT];
+    let mut output = [0u8; PRINT];
+    run_large(
+        &mut input,
         &mut values,
         &mut pressures,
         &mut bytes,

@@ -1,6 +1,6 @@
 -- Laws of the checks: tests joined, cells one by one, and that method's checks 4 and 5 are these. Assumes nothing.
 use mathlib.Core.Path.{_≡_, refl, sym, ap, ap₂, _∙_}
-use mathlib.Core.Bool.{Bool, _&&_}
+use mathlib.Core.Bool.{Bool, not, _&&_}
 use mathlib.Core.List.{List, _∷_}
 use Prim.Native.Nat.{ℕ, zero, suc, _^_, _≤_, _<_}
 use native.Mathlib.Omega.{arith}
@@ -18,7 +18,7 @@ use Rattle.method.specs.declared.Sides.{Sides}
 use Rattle.method.specs.declared.Settings.{Settings}
 use Rattle.method.specs.declared.Found.{Found}
 use Rattle.method.specs.Cast.{Cast, between, cells, sidesFit, settingsFit, labelAt, widest, first, badLabel, badValue}
-use Rattle.method.specs.Answers.{Check, check, verdict}
+use Rattle.method.specs.Answers.{Check, check, fault, verdict}
 use Rattle.method.specs.Calls.{labelFault, valueFault}
 use Rattle.theory.proofs.Firsts.{none-none, none-more, none-end, hit}
 use Rattle.checks.specs.Faults.{badLabelAt, badValueAt, cellRuling}
@@ -82,6 +82,10 @@ pub cells-found : (ls : List ℕ) (vs : List ℤ) (n : ℕ) (x y : Found) (p q o
     → x ≡ first (badLabelAt ls) n → y ≡ first (badValueAt ls vs) n → o ≡ cellRuling ls vs n
 unfolding cellRuling
 cells-found ls vs n x y p q o e b d a c = e ∙ ap₂ firstOf (b ∙ ap (rulingBy 4) a) (d ∙ ap (rulingBy 5) c)
+
+-- ---- a test as a ruling
+pub ruled-unless : (k : ℕ) (b w : Bool) (x : Found) (p : Ruling) → p ≡ rulingBy k x → x ≡ fault (not w) → w ≡ b → p ≡ rulingBy k (fault (not b))
+ruled-unless k b w x p c e a = c ∙ ap (rulingBy k) (e ∙ ap (λ t. fault (not t)) a)
 
 pub ruleset checked = (needs, between-low, between-rest, sides-all, settings-all, widest-air, widest-opening, widest-wall, range-by, label-cell, value-cell, cells-found)
 

@@ -1,15 +1,18 @@
 // The checks of sides, settings, labels and values.
 ghost use mathlib.Core.Path.{_≡_};
-ghost use mathlib.Core.Bool.{_&&_};
+ghost use mathlib.Core.Bool.{not, _&&_};
 ghost use Prim.Native.Nat.{_<_, _≤_};
 ghost use lib.Dec.{ltb};
 ghost use lib.IntN.{natAbs};
 ghost use lib.ListN.{length};
 ghost use Rattle.method.specs.Cast.{sidesFit, settingsFit, widest, first};
 ghost use Rattle.method.specs.Cast.{between as Cast·between};
+ghost use Rattle.method.specs.Answers.{fault};
 ghost use Rattle.checks.specs.Faults.{badLabelAt, badValueAt, cellRuling};
+ghost use Rattle.checks.specs.Rulings.{rulingBy};
 use crate::Ruling;
 use crate::rule::earlier;
+use crate::rule::fault_unless;
 use crate::rule::ruled;
 use method::Found;
 use method::Settings;
@@ -47,6 +50,20 @@ pub fn settings_fit(settings: Settings) -> bool
     let levels = between(1, 6, settings.levels);
     let rounds = between(0, 1000, settings.rounds);
     all_three(tolerance, levels, rounds)
+}
+
+// Check 1 as a ruling.
+pub fn judge_sides(sides: Sides) -> Ruling
+    ensures { λ r. ⌜ r ≡ rulingBy 1 (fault (not (sidesFit sides))) ⌝ }
+{
+    ruled(1, fault_unless(sides_fit(sides)))
+}
+
+// Check 3 as a ruling.
+pub fn judge_settings(settings: Settings) -> Ruling
+    ensures { λ r. ⌜ r ≡ rulingBy 3 (fault (not (settingsFit settings))) ⌝ }
+{
+    ruled(3, fault_unless(settings_fit(settings)))
 }
 
 // Whether the label at a place is above 2.

@@ -2,10 +2,8 @@
 ghost use mathlib.Core.Path.{_≡_};
 ghost use mathlib.Core.Bool.{not};
 ghost use Rattle.method.specs.Answers.{fault};
-ghost use Rattle.method.specs.Answers.{refusal as Answers·refusal};
 ghost use Rattle.checks.specs.Rulings.{rulingBy, firstOf};
 use crate::Ruling;
-use method::Answer;
 use method::Found;
 
 // A fault that has no place, unless all is well.
@@ -32,19 +30,5 @@ pub fn earlier(a: Ruling, b: Ruling) -> Ruling
     match a {
         Ruling::Refused(number, place) => Ruling::Refused(number, place),
         Ruling::Allowed => b,
-    }
-}
-
-// An answer that has a number and a place alone.
-pub fn refusal(number: u32, place: u32) -> Answer
-    ensures { λ r. ⌜ r ≡ Answers·refusal number place ⌝ }
-{
-    Answer {
-        number,
-        place,
-        rounds: 0,
-        worst: 0,
-        interior: 0,
-        depth: 0,
     }
 }

@@ -13,13 +13,13 @@ use Rattle.laws.proofs.Naturals.{le-or-lt}
 use Rattle.method.specs.declared.Sides.{Sides}
 use Rattle.method.specs.Cast.{cells, isAir}
 use Rattle.theory.specs.Waves.{waves}
-use Rattle.theory.proofs.Sides.{Fit}
+use Rattle.theory.specs.Sides.{Fit}
 use Rattle.theory.proofs.Hits.{hits, same-yes, same-no}
 use Rattle.theory.proofs.Orders.{hits-append, hits-at}
 use Rattle.theory.proofs.Children.{band-air}
 use Rattle.theory.proofs.Waves.{chosen-hit, chosen-pass, waves-hit, waves-chosen}
 use Rattle.grid.specs.Entries.{entryOf, cellsOf}
-use Rattle.levels.specs.Lists.{smoothed, listOf, left, leftOf, airOf}
+use Rattle.bands.specs.Lists.{smoothed, listOf, left, leftOf, airOf}
 use Rattle.smooth.specs.Written.{Covers}
 use Rattle.smooth.specs.Entries.{AirEntries}
 use Rattle.smooth.proofs.EntryLaws.{cells-back, entries-are}

@@ -19,16 +19,18 @@ use Rattle.method.specs.declared.Sides.{Sides}
 use Rattle.method.specs.Cast.{cells}
 use Rattle.method.specs.Levels.{value}
 use Rattle.theory.specs.Levels.{sidesAt, labelsAt, airBefore}
-use Rattle.theory.proofs.Sides.{Fit, fits}
+use Rattle.theory.specs.Sides.{Fit}
+use Rattle.theory.proofs.Sides.{fits}
 use Rattle.theory.proofs.Sizes.{cells-of-six}
 use Rattle.levels.specs.declared.sides.Levels.{Levels}
-use Rattle.levels.specs.declared.lists.Lists.{Lists}
+use Rattle.bands.specs.declared.lists.Lists.{Lists}
 use Rattle.levels.specs.Rooms.{written}
 use Rattle.levels.specs.Levels.{base}
-use Rattle.levels.specs.Lists.{listOf, leftOf}
+use Rattle.bands.specs.Lists.{listOf, leftOf}
 use Rattle.levels.specs.AllLabels.{LabelsAsked, allLabels}
-use Rattle.levels.specs.AllLists.{baseLabels, listAt, airAt, listsBefore, firsts, listsTo, AllListed, ListsAsked}
-use Rattle.levels.proofs.Calls.{part-left, lists-asked}
+use Rattle.bands.specs.AllLists.{baseLabels, listAt, airAt, listsBefore, firsts, listsTo, AllListed, ListsAsked}
+use Rattle.levels.proofs.Calls.{part-left}
+use Rattle.bands.proofs.Calls.{lists-asked}
 use Rattle.levels.proofs.Labelled.{room-enough}
 use Rattle.smooth.specs.Fields.{u-of, b-of}
 use Rattle.cycle.specs.Strokes.{AirList, Ended, Put}

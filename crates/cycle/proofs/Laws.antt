@@ -25,7 +25,7 @@ use Rattle.method.specs.declared.Sides.{Sides}
 use Rattle.method.specs.Cast.{cells, isAir}
 use Rattle.method.specs.Levels.{value, halved, coarse, inBand, restricted}
 use Rattle.method.specs.Cycle.{times, sweeps, ascending, descending, jacobi, residue, zeros, coarsest, downstroke}
-use Rattle.theory.proofs.Sides.{Fit}
+use Rattle.theory.specs.Sides.{Fit}
 use Rattle.theory.specs.Quiet.{Quiet}
 use Rattle.theory.proofs.Children.{band-air}
 use Rattle.theory.proofs.Quiet.{quiet-residue, quiet-descending, quiet-times}

@@ -22,15 +22,15 @@ use Rattle.method.specs.Cycle.{cycle, coarsest, downstroke, upstroke, corrected
 use Rattle.theory.specs.Levels.{sidesAt, labelsAt, cellsBefore}
 use Rattle.theory.specs.Quiet.{Quiet}
 use Rattle.theory.proofs.Quiet.{quiet-cycle, quiet-corrected}
-use Rattle.theory.proofs.Sides.{Fit}
+use Rattle.theory.specs.Sides.{Fit}
 use Rattle.theory.proofs.Sizes.{fit-at}
 use Rattle.theory.proofs.Kept.{length-kept}
 use Rattle.grid.proofs.Steps.{cells-most}
 use Rattle.levels.specs.declared.sides.Levels.{Levels}
-use Rattle.levels.specs.declared.lists.Lists.{Lists}
+use Rattle.bands.specs.declared.lists.Lists.{Lists}
 use Rattle.levels.specs.Levels.{base, startIn, sidesIn}
-use Rattle.levels.specs.Lists.{smoothed, listOf, airOf}
-use Rattle.levels.specs.AllLists.{partIn, baseLabels, listAt, airAt}
+use Rattle.bands.specs.Lists.{smoothed, listOf, airOf}
+use Rattle.bands.specs.AllLists.{partIn, baseLabels, listAt, airAt}
 use Rattle.levels.proofs.Starts.{start-of, sides-of}
 use Rattle.levels.proofs.Calls.{before-up-to}
 use Rattle.smooth.specs.Fields.{u-of, b-of, Level, Laid}

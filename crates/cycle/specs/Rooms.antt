@@ -9,12 +9,12 @@ use Rattle.method.specs.Cast.{cells}
 use Rattle.method.specs.Levels.{restricted}
 use Rattle.method.specs.Cycle.{cycle, residue, corrected}
 use Rattle.theory.specs.Levels.{sidesAt, labelsAt, cellsBefore}
-use Rattle.theory.proofs.Sides.{Fit}
+use Rattle.theory.specs.Sides.{Fit}
 use Rattle.levels.specs.declared.sides.Levels.{Levels}
-use Rattle.levels.specs.declared.lists.Lists.{Lists}
+use Rattle.bands.specs.declared.lists.Lists.{Lists}
 use Rattle.levels.specs.Levels.{levelsOf, base, startIn, sidesIn}
 use Rattle.levels.specs.AllLabels.{LabelsIn}
-use Rattle.levels.specs.AllLists.{baseLabels, listAt, airAt}
+use Rattle.bands.specs.AllLists.{baseLabels, listAt, airAt}
 use Rattle.smooth.specs.Fields.{u-of, b-of}
 use Rattle.cycle.specs.Strokes.{Put}
 

@@ -11,13 +11,13 @@ ghost use Rattle.method.specs.Cycle.{sweeps, zeros, jacobi, residue, coarsest, 
 ghost use Rattle.theory.specs.Quiet.{Quiet};
 ghost use Rattle.grid.specs.Entries.{cellsOf};
 ghost use Rattle.levels.specs.Levels.{base};
-ghost use Rattle.levels.specs.AllLists.{partIn};
+ghost use Rattle.bands.specs.AllLists.{partIn};
 ghost use Rattle.smooth.specs.Fields.{u-of, b-of, Level};
 ghost use Rattle.smooth.specs.Entries.{EntryLevel};
 ghost use Rattle.transfer.specs.Transfer.{TwoLevels};
 ghost use Rattle.cycle.specs.Strokes.{entriesWhere, AirList, Ended, sweepTurn, sweptRoom, coarsestTurn, Put, rising, Lowered};
 ghost use Rattle.cycle.specs.Rooms.{listFrom, airFrom, fieldsFrom, Ready, Cycled, Corrected, LabelsAt, ListAt, AirAt};
-use levels::lists::Lists;
+use bands::lists::Lists;
 use levels::sides::Levels;
 use method::Sides;
 
@@ -174,7 +174,7 @@ fn lower(room: &mut [f64], labels: &[u8], air: &[u32], below: &[u8], g: Sides, h
     ensures { λ _. ⌜ Lowered g h (now (labels .entry)) (now (room .entry)) (now (room .exit)) ⌝ }
 {
     residual(room, labels, air, g);
-    transfer::restriction::restrict(room, labels, below, g, h);
+    restriction::restrict(room, labels, below, g, h);
 }
 
 // The labels of level k.
@@ -258,5 +258,5 @@ fn coarse_correction(
     lower(room, labels, air, below, g, h);
     let start = 3 * labels.len();
     cycle(&mut room[start..], bytes, words, l, s, count, k + 1);
-    transfer::prolongation::correct(room, labels, below, g, h);
+    prolongation::correct(room, labels, below, g, h);
 }

@@ -8,7 +8,7 @@ use borrow.Author.Tests.{ltb-true, leb-true, lt-ltb, le-ltb}
 use Rattle.method.specs.declared.Sides.{Sides}
 use Rattle.method.specs.Cast.{cells, number}
 use Rattle.method.specs.Levels.{placed, joined}
-use Rattle.theory.proofs.Sides.{x-axis, y-axis, z-axis}
+use Rattle.theory.specs.Sides.{x-axis, y-axis, z-axis}
 use Rattle.theory.proofs.Numbers.{number-in}
 use Rattle.grid.specs.Place.{placeAt}
 

@@ -10,7 +10,7 @@ use lib.ListN.{getD}
 use Rattle.laws.specs.Lists.{over}
 use Rattle.method.specs.declared.Sides.{Sides}
 use Rattle.method.specs.Cast.{axes, cells, isAir, noWall, labelAt, back, on, beside, around, degree}
-use Rattle.theory.proofs.Sides.{x-axis, y-axis, z-axis}
+use Rattle.theory.specs.Sides.{x-axis, y-axis, z-axis}
 use Rattle.grid.specs.Entries.{one, airBits, entryOf, faceOf}
 
 -- ---- the parts

@@ -5,7 +5,7 @@ use native.Mathlib.Nat.{mul-le-mul, mod-eq-of-lt, div-one, div-div-eq-div-mul}
 use native.Mathlib.Omega.{arith}
 use Rattle.method.specs.declared.Sides.{Sides}
 use Rattle.method.specs.Cast.{cells, along, number}
-use Rattle.theory.proofs.Sides.{z-axis}
+use Rattle.theory.specs.Sides.{z-axis}
 use Rattle.theory.proofs.Numbers.{coordinates-in, top}
 use Rattle.grid.specs.declared.place.Spot.{Spot}
 use Rattle.grid.specs.Place.{SpotOf, placeAt}

@@ -13,7 +13,7 @@ use mir.Val.{Fits}
 use Rattle.method.specs.declared.Sides.{Sides}
 use Rattle.method.specs.Cast.{cells, axes, along, labelAt, isAir, back, on, beside, around}
 use Rattle.laws.proofs.Lists.{getD-any}
-use Rattle.theory.proofs.Sides.{Fit, x-axis, y-axis, z-axis}
+use Rattle.theory.specs.Sides.{Fit, x-axis, y-axis, z-axis}
 use Rattle.theory.proofs.Neighbours.{back-yes, back-no, back-far, on-yes, on-no}
 
 -- ---- labels

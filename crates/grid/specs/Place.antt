@@ -5,7 +5,7 @@ use lib.Dec.{ltb, leb}
 use mathlib.Core.Path.{_≡_}
 use Rattle.method.specs.declared.Sides.{Sides}
 use Rattle.method.specs.Cast.{along, cells, number}
-use Rattle.theory.proofs.Sides.{x-axis, y-axis, z-axis}
+use Rattle.theory.specs.Sides.{x-axis, y-axis, z-axis}
 use Rattle.grid.specs.declared.place.Spot.{Spot}
 
 -- a cell's coordinates along the three axes, and that they are below the sides

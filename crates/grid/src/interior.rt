@@ -4,7 +4,7 @@ ghost use mathlib.Core.Path.{_≡_};
 ghost use mathlib.Core.Bool.{cond};
 ghost use Prim.Native.Nat.{_+_, _≤_};
 ghost use Rattle.method.specs.Cast.{cells, judged, interior};
-ghost use Rattle.theory.proofs.Sides.{Fit};
+ghost use Rattle.theory.specs.Sides.{Fit};
 
 // One more where cell c is air.
 fn count_at(labels: &[u8], c: usize, k: u32) -> u32

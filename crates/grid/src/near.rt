@@ -2,7 +2,7 @@
 ghost use mathlib.Core.Path.{_≡_};
 ghost use Prim.Native.Nat.{_+_, _^_, _<_};
 ghost use Rattle.method.specs.Cast.{cells, labelAt, back, on, around};
-ghost use Rattle.theory.proofs.Sides.{Fit};
+ghost use Rattle.theory.specs.Sides.{Fit};
 
 // The label of cell j; outside is wall.
 pub fn label_at(labels: &[u8], j: usize) -> u8

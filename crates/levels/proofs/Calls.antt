@@ -1,4 +1,4 @@
--- What a caller of this crate's functions needs: that what they ask holds, and that what they promise is one result. Assumes nothing.
+-- What a caller of this crate's functions needs: that what they ask holds, and where each level's labels then stand. Assumes nothing.
 use Prim.Native.Nat.{ℕ, zero, suc, _+_, _-_, _≤_, _<_}
 use mathlib.Core.Path.{_≡_, refl, sym, ap, subst, _∙_}
 use mathlib.Core.Logic.{⊎-elim}
@@ -9,19 +9,15 @@ use lib.ListN.{length, take, drop, length-drop}
 use lib.Seq.{take-append-le, drop-append-le, drop-at, take-all}
 use Rattle.laws.specs.Lists.{tab}
 use Rattle.method.specs.declared.Sides.{Sides}
-use Rattle.method.specs.Cast.{cells, labelAt}
-use Rattle.method.specs.Answers.{byteNeed, wordNeed}
-use Rattle.theory.specs.Walks.{Walk}
-use Rattle.theory.specs.Levels.{sidesAt, labelsAt, cellsBefore, airBefore}
-use Rattle.theory.proofs.Sides.{Fit, fits}
-use Rattle.theory.proofs.Kept.{length-kept, air-of-six}
+use Rattle.method.specs.Cast.{cells}
+use Rattle.method.specs.Answers.{byteNeed}
+use Rattle.theory.specs.Levels.{sidesAt, labelsAt, cellsBefore}
+use Rattle.theory.specs.Sides.{Fit}
+use Rattle.theory.proofs.Kept.{length-kept}
 use Rattle.levels.specs.declared.sides.Levels.{Levels}
-use Rattle.levels.specs.declared.lists.Lists.{Lists}
 use Rattle.levels.specs.Rooms.{written}
 use Rattle.levels.specs.Levels.{levelsOf, base}
 use Rattle.levels.specs.AllLabels.{allLabels, LabelsIn, LabelsAsked}
-use Rattle.levels.specs.Lists.{Listed}
-use Rattle.levels.specs.AllLists.{AllListed, baseLabels, ListsAsked}
 use Rattle.levels.proofs.Labelled.{all-long}
 
 -- ---- the levels of a box know the box
@@ -84,33 +80,3 @@ module _ (g : Sides) (ls : List ℕ) (long : length ls ≡ cells g) where
   pub labels-in : (count : ℕ) (e s : List ℕ) → s ≡ written e 0 (allLabels g ls count) → LabelsIn g ls count s
   unfolding written
   labels-in count e s h = record { at = λ k l. ap (λ x. take (cells (sidesAt g k)) (drop (cellsBefore g k) x)) h ∙ part-left (allLabels g ls count) (drop (0 + length (allLabels g ls count)) e) (cellsBefore g k) (cells (sidesAt g k)) (inside count k l) ∙ part-of count k l }
-
-module _ (l : Levels) (count : ℕ) (ls e s : List ℕ) (a : LabelsAsked l count (length ls) (length e)) (h : s ≡ written e 0 (allLabels (base l) ls count)) where
-  pub base-labels : baseLabels l s ≡ ls
-  unfolding baseLabels sidesAt cellsBefore labelsAt
-  base-labels = labels-in (base l) ls (a .full) count e s h .at 0 (a .least)
-
-  pub lists-asked : (words : ℕ) → length s ≡ length e → airBefore (base l) ls count ≤ words → ListsAsked l count s words
-  lists-asked words k r = record {
-    fit = a .fit;
-    laid = a .laid;
-    most = a .most;
-    full = rw k (a .room);
-    labels = rw base-labels (labels-in (base l) ls (a .full) count e s h);
-    room = rw base-labels r;
-  }
-
--- the word room has room for every level's air cells
-pub words-enough : (g : Sides) (ls : List ℕ) → Fit g → length ls ≡ cells g → ((i : ℕ) → labelAt ls i ≡ 0 → (k : ℕ) × Walk g ls i k) → (i₀ : ℕ) → labelAt ls i₀ ≡ 0
-    → (count words : ℕ) → wordNeed (cells g) ≤ words → airBefore g ls count ≤ words
-unfolding wordNeed
-words-enough g ls z long w i₀ air count words r = omega (arith, air-of-six g ls (fits g z) long w i₀ air count)
-
--- ---- what is promised is one result
-module _ {e : List ℕ} {a : ℕ} {l : List ℕ} {r r′ : ℕ} {s s′ : List ℕ} where
-  pub listed-one : Listed e a l r s → Listed e a l r′ s′ → (r ≡ r′) × (s ≡ s′)
-  listed-one p q = (p .count ∙ sym (q .count), p .room ∙ sym (q .room))
-
-module _ {g : Sides} {ls : List ℕ} {count : ℕ} {e : List ℕ} {r r′ : Lists} {s s′ : List ℕ} where
-  pub all-listed-one : AllListed g ls count e r s → AllListed g ls count e r′ s′ → (r ≡ r′) × (s ≡ s′)
-  all-listed-one p q = (p .lists ∙ sym (q .lists), p .room ∙ sym (q .room))

@@ -12,7 +12,7 @@ use Rattle.laws.proofs.Loops.{Up, up-none, up-more, up-end}
 use Rattle.method.specs.declared.Sides.{Sides}
 use Rattle.method.specs.Cast.{axes, along, cells, labelAt, isAir, isOpening}
 use Rattle.method.specs.Levels.{halved, Halving, halvings, Drawn, placed, axisWeight, choice, choices, children, givenTo, coarseLabel}
-use Rattle.theory.proofs.Sides.{Fit, x-axis, y-axis, z-axis}
+use Rattle.theory.specs.Sides.{Fit, x-axis, y-axis, z-axis}
 use Rattle.theory.proofs.Sizes.{halved-fit}
 use Rattle.grid.specs.declared.place.Spot.{Spot}
 use Rattle.grid.specs.Place.{SpotOf}

@@ -16,7 +16,8 @@ use Rattle.method.specs.Cast.{cells}
 use Rattle.method.specs.Levels.{halved, coarseLabel, coarse}
 use Rattle.method.specs.Answers.{byteNeed}
 use Rattle.theory.specs.Levels.{sidesAt, labelsAt, cellsBefore}
-use Rattle.theory.proofs.Sides.{Fit, fits}
+use Rattle.theory.specs.Sides.{Fit}
+use Rattle.theory.proofs.Sides.{fits}
 use Rattle.theory.proofs.Sizes.{halved-fit, fit-at, cells-of-six}
 use Rattle.theory.proofs.Kept.{length-kept}
 use Rattle.levels.specs.declared.sides.Levels.{Levels}

@@ -8,7 +8,7 @@ use Rattle.method.specs.Cast.{cells}
 use Rattle.method.specs.Levels.{halved, coarseLabel, coarse}
 use Rattle.method.specs.Answers.{byteNeed}
 use Rattle.theory.specs.Levels.{sidesAt, labelsAt, cellsBefore}
-use Rattle.theory.proofs.Sides.{Fit}
+use Rattle.theory.specs.Sides.{Fit}
 use Rattle.levels.specs.declared.sides.Levels.{Levels}
 use Rattle.levels.specs.Rooms.{written}
 use Rattle.levels.specs.Levels.{levelsOf, base, startIn, sidesIn}

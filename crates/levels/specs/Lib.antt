@@ -3,6 +3,3 @@ pub mod Rooms
 pub mod Levels
 pub mod Kin
 pub mod AllLabels
-pub mod Other
-pub mod Lists
-pub mod AllLists

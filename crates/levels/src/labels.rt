@@ -4,7 +4,7 @@ ghost use Prim.Native.Nat.{_+_, _≤_, _<_};
 ghost use lib.ListN.{length, take, drop};
 ghost use Rattle.method.specs.Cast.{cells, labelAt};
 ghost use Rattle.method.specs.Levels.{halved, coarseLabel, coarse};
-ghost use Rattle.theory.proofs.Sides.{Fit};
+ghost use Rattle.theory.specs.Sides.{Fit};
 ghost use Rattle.levels.specs.Rooms.{written};
 ghost use Rattle.levels.specs.Levels.{base};
 ghost use Rattle.levels.specs.Kin.{Near, childAt, outrank};

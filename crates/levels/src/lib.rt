@@ -1,5 +1,3 @@
-// The levels of a cast in the lent rooms: where each stands, its labels, and the cells that are smoothed on it.
-pub mod band;
+// The levels of a cast in the lent rooms: where each stands, and its labels.
 pub mod labels;
-pub mod lists;
 pub mod sides;

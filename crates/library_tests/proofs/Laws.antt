@@ -8,6 +8,9 @@ use borrow.Author.Needs.{needs}
 use lib.ListN.{length, set, length-set}
 use lib.IntN.{ℤ, pos}
 use lib.Ieee.{Float}
+use mir.Syntax.{w64}
+use mir.Val.{SFits, toZ, ofZ}
+use mir.Facts.{toZ-ofZ}
 use Rattle.laws.specs.Binary64.{+0}
 use Rattle.method.specs.declared.Sides.{Sides}
 use Rattle.method.specs.declared.Found.the-variants.{Nowhere, At}
@@ -19,16 +22,19 @@ use Rattle.method.specs.Cycle.{cycle}
 use Rattle.method.specs.Rounds.{tick}
 use Rattle.method.specs.Answers.{byteNeed}
 use Rattle.theory.specs.Levels.{sidesAt, labelsAt, cellsBefore, airBefore}
-use Rattle.theory.proofs.Sides.{Fit, fit, fits}
+use Rattle.theory.specs.Sides.{Fit}
+use Rattle.theory.proofs.Sides.{fit, fits}
 use Rattle.theory.proofs.Sizes.{cells-of-six}
 use Rattle.theory.proofs.Counting.{counted-le}
+use Rattle.grid.proofs.Steps.{cells-most}
 use Rattle.levels.specs.declared.sides.Levels.{Levels}
-use Rattle.levels.specs.declared.lists.Lists.{Lists}
+use Rattle.bands.specs.declared.lists.Lists.{Lists}
 use Rattle.levels.specs.Rooms.{written}
 use Rattle.levels.specs.Levels.{levelsOf, base}
 use Rattle.levels.specs.AllLabels.{LabelsAsked, allLabels}
-use Rattle.levels.specs.AllLists.{baseLabels, AllListed, ListsAsked}
-use Rattle.levels.proofs.Calls.{base-is, labels-asked, base-labels, lists-asked}
+use Rattle.bands.specs.AllLists.{baseLabels, AllListed, ListsAsked}
+use Rattle.levels.proofs.Calls.{base-is, labels-asked}
+use Rattle.bands.proofs.Calls.{base-labels, lists-asked}
 use Rattle.smooth.specs.Fields.{u-of, b-of}
 use Rattle.cycle.specs.Strokes.{Ended, Put}
 use Rattle.cycle.specs.Rooms.{Ready, cellsOf, cycleFrom, fieldsFrom, Cycled}
@@ -104,15 +110,17 @@ module _ (g : Sides) (w : Bool) (e : w ≡ sidesFit g) where
   pub sides-known : w ≡ true → Fit g
   sides-known t = fit g (sym e ∙ t)
 
-pub asked-is : (g : Sides) (count n labels bytes words room : ℕ) → Fit g → n ≡ cells g → 1 ≤ count → count ≤ 6 → labels ≡ n
-    → 2 * n + 16 ≤ bytes → 2 * n + 5 ≤ words → 6 * n + 16 ≤ room → Asked g count labels bytes words room
-unfolding byteNeed
-asked-is g count n labels bytes words room z e l m f b w r = record {
+pub few-cells : (g : Sides) (n : ℕ) → Fit g → n ≡ cells g → n ≤ 32768
+few-cells g n z e = omega (arith, e, cells-most g z)
+
+pub asked-is : (g : Sides) (count n labels need bytes words room : ℕ) → Fit g → n ≡ cells g → 1 ≤ count → count ≤ 6 → labels ≡ n
+    → need ≡ byteNeed n → need ≤ bytes → 2 * n + 5 ≤ words → 6 * n + 16 ≤ room → Asked g count labels bytes words room
+asked-is g count n labels need bytes words room z e l m f q b w r = record {
   fit = z;
   least = l;
   most = m;
   full = f ∙ e;
-  bytes-enough = omega arith;
+  bytes-enough = omega (arith, q ∙ ap byteNeed e);
   words-enough = omega arith;
   room-enough = omega arith;
 }
@@ -141,9 +149,10 @@ module _ (g : Sides) (ls room left : List ℕ) (w : Walked) (z : Measured g ls r
   unfolding sealedAs
   walked-open e = record { depth = λ q. z .depth-is; sealed = λ q. rw (← z .sealed-is, e) refl }
 
-pub tick-whole : (x : Float) (t : Tick) (z : ℤ) → t ≡ tick x → t ≡ Whole z → TickOf x (record { whole = 1; value = z })
+-- the value as the machine reads it back from its bits
+pub tick-whole : (x : Float) (t : Tick) (z : ℤ) → SFits w64 z → t ≡ tick x → t ≡ Whole z → TickOf x (record { whole = 1; value = toZ w64 (ofZ w64 z) })
 unfolding tickAs
-tick-whole x t z e q = record { is = rw (← e, q) (refl, refl) }
+tick-whole x t z f e q = record { is = rw (← e, q) (refl, toZ-ofZ f) }
 
 pub tick-none : (x : Float) (t : Tick) → t ≡ tick x → t ≡ Refused → TickOf x (record { whole = 0; value = pos 0 })
 unfolding tickAs
@@ -156,4 +165,4 @@ module _ (t : Settings) (bytes : List ℕ) (room : ℕ) (old ls : List ℕ) (e :
   pub labels-short : length old < length ls → LabelsOf t bytes room old 0 old
   labels-short h = record { found = λ l. absurd (omega (arith, ap length e)) }
 
-pub ruleset calling = (needs, labels-put, labels-short, tick-whole, tick-none, sides-known, asked-is, not-run, is-run, not-walked, roomy-is, walked-sealed, walked-open)
+pub ruleset calling = (needs, labels-put, labels-short, tick-none, sides-known, few-cells, asked-is, not-run, is-run, not-walked, roomy-is, walked-sealed, walked-open)

@@ -19,7 +19,7 @@ use Rattle.method.specs.OldForm.{oldReading}
 use Rattle.old_read.specs.OldReads.{oldAsked}
 use Rattle.puts.specs.Puts as Put
 use Rattle.method.specs.Answers.{byteNeed}
-use Rattle.theory.proofs.Sides.{Fit}
+use Rattle.theory.specs.Sides.{Fit}
 use Rattle.smooth.specs.Fields.{u-of, b-of}
 use Rattle.library_tests.specs.declared.Walk.{Walk}
 use Rattle.library_tests.specs.declared.Ticked.{Ticked}

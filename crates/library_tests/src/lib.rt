@@ -4,15 +4,15 @@ ghost use Prim.Native.Nat.{_-_};
 ghost use lib.ListN.{length};
 ghost use Rattle.method.specs.Cast.{cells};
 ghost use Rattle.method.specs.Cycle.{cycle};
-ghost use Rattle.theory.proofs.Sides.{Fit};
+ghost use Rattle.theory.specs.Sides.{Fit};
 ghost use Rattle.levels.specs.Levels.{base};
 ghost use Rattle.smooth.specs.Fields.{u-of, b-of};
 ghost use Rattle.cycle.specs.Strokes.{Ended};
 ghost use Rattle.cycle.specs.Rooms.{Ready, Cycled, fieldsFrom};
 ghost use Rattle.library_tests.specs.Run.{Asked, CycleOf, WalkOf, TickOf, LabelsOf};
+use bands::lists::Lists;
 use checks::cast::sides_fit;
 use grid::place::cell_count;
-use levels::lists::Lists;
 use levels::sides::Levels;
 use method::Found;
 use method::Settings;
@@ -72,7 +72,7 @@ fn run(
 {
     let l = levels::sides::levels_of(g);
     levels::labels::all_labels(bytes, labels, l, count);
-    let s = levels::lists::all_lists(words, bytes, l, count);
+    let s = bands::lists::all_lists(words, bytes, l, count);
     cycle::end_in_zero(room);
     cycles(room, bytes, words, l, s, count, times);
 }
@@ -100,7 +100,7 @@ fn fitted_cycle(
     if labels.len() != n {
         return 0;
     }
-    if bytes.len() < 2 * n + 16 {
+    if bytes.len() < rooms::byte_need(n) {
         return 0;
     }
     if words.len() < 2 * n + 5 {

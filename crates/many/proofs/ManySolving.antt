@@ -18,8 +18,9 @@ use Rattle.method.specs.declared.Answer.{Answer}
 use Rattle.method.specs.declared.Found.the-variants.{Nowhere}
 use Rattle.method.specs.Cast.{cells, sidesFit, settingsFit, badLabel, interior, sealed}
 use Rattle.method.specs.Answers.{Verdict, passed, refused, verdict, refusal, byteNeed, floatNeed, wordNeed, cleared}
-use Rattle.many_checks.specs.Many.{AskedMany, SolvedMany, manySize, setsFit, manyLengthsFit, manyChecksBefore7, manyUntouched, manyHandedBack, solvingMany}
-use Rattle.theory.proofs.Sides.{Fit, fit}
+use Rattle.method.specs.Many.{AskedMany, SolvedMany, manySize, setsFit, manyLengthsFit, manyChecksBefore7, manyUntouched, manyHandedBack, solvingMany}
+use Rattle.theory.specs.Sides.{Fit}
+use Rattle.theory.proofs.Sides.{fit}
 use Rattle.theory.proofs.Verdicts.{AllPass, all-pass, no-fault, no-fault′}
 use Rattle.grid.proofs.Steps.{cells-most}
 use Rattle.checks.specs.declared.Ruling.{Ruling}

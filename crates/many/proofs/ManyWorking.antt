@@ -16,23 +16,25 @@ use Rattle.method.specs.declared.Settings.{Settings}
 use Rattle.method.specs.declared.Answer.{Answer}
 use Rattle.method.specs.declared.Found.{Found}
 use Rattle.method.specs.declared.Found.the-variants.{Nowhere, At}
-use Rattle.method.specs.Cast.{cells, labelAt, field, widest, first, between, settingsFit, badValue, sealed}
+use Rattle.method.specs.Cast.{cells, labelAt, field, widest, first, between, settingsFit, badValue, interior, sealed}
 use Rattle.method.specs.Cast.{depth as Cast·depth}
 use Rattle.method.specs.Answers.{check, Verdict, passed, refused, verdict, refusal, done, byteNeed, floatNeed, wordNeed}
 use Rattle.method.specs.Calls.{Asked, lengthsFit, checksBefore7}
-use Rattle.many_checks.specs.Many.{AskedMany, SolvedMany, manyChecksFrom7, manyHandedBack, endToEnd, setPressures, setFields}
+use Rattle.method.specs.Many.{AskedMany, SolvedMany, manyChecksFrom7, manyHandedBack, endToEnd, setPressures, setFields}
 use Rattle.theory.specs.Walks.{Walk}
-use Rattle.theory.proofs.Sides.{Fit, fit}
+use Rattle.theory.specs.Sides.{Fit}
+use Rattle.theory.proofs.Sides.{fit}
 use Rattle.theory.proofs.Verdicts.{AllPass, all-pass}
 use Rattle.theory.proofs.Firsts.{Search, found, none, search-first}
 use Rattle.theory.proofs.Accepted.{some-air, reaching}
 use Rattle.theory.proofs.Reach.{test-air}
 use Rattle.walks.specs.Search.{Roomy}
-use Rattle.levels.proofs.Calls.{words-enough}
+use Rattle.bands.proofs.Calls.{words-enough}
 use Rattle.checks.proofs.RuleLaws.{fails-at, passes-on}
 use Rattle.rounds.specs.declared.Plan.{Plan}
 use Rattle.rounds.specs.Rounds.{castOf}
 use Rattle.solve.specs.Work.{PrepareAsked, PlanOf}
+use Rattle.solve.proofs.Working.{of-cast}
 use Rattle.solve.proofs.Judging.{both}
 use Rattle.solve.proofs.Solving.{in-range}
 use Rattle.many_sets.specs.Sets.{Past, CastReady, SameSet, SameCall, SetsOf}
@@ -110,12 +112,16 @@ module _ {g : Sides} {ls : List ℕ} {t : Settings} {sets : ℕ} {vs : List ℤ}
   unfolding wordNeed
   search-room room q = record { fit = fit g (z .sides); sized = z .labelled; long = omega (arith, z .words-long) }
 
+  pub count-fit : Fit g
+  count-fit = fit g (z .sides)
+
   module _ (w : Found) (e : w ≡ sealed g ls) (h : w ≡ Nowhere) where
     pub prepare-asked : (room : List ℕ) → length room ≡ words → PrepareAsked g ls (t .levels) bytes (length room)
     prepare-asked room q = past-prepare g ls t (z .past (sym e ∙ h)) bytes (length room) (z .bytes-long) (q ∙ z .words-long)
 
-    pub cast-ready : (d : ℕ) → d ≡ Cast·depth g ls → (plan : Plan) (bs ws : List ℕ) → PlanOf g ls (t .levels) plan bs ws → CastReady g ls t d plan bs ws floats
-    cast-ready d ed plan bs ws p = record { past = z .past (sym e ∙ h); deep = ed; planned = p; floats-long = z .floats-long }
+    pub cast-ready : (i d : ℕ) → i ≡ interior g ls → d ≡ Cast·depth g ls → (plan : Plan) (bs ws : List ℕ) → PlanOf g ls (t .levels) plan bs ws
+        → CastReady g ls t (record { interior = i; depth = d }) plan bs ws floats
+    cast-ready i d ei ed plan bs ws p = record { past = z .past (sym e ∙ h); measured = of-cast g ls i d ei ed; planned = p; floats-long = z .floats-long }
 
 -- ---- check 7, and what comes after it
 module _ (a : AskedMany) where

@@ -3,8 +3,9 @@ ghost use mathlib.Core.Path.{_≡_};
 ghost use Prim.Native.Nat.{_+_, _*_};
 ghost use lib.ListN.{length};
 ghost use Rattle.many.specs.ManySolve.{askedMany, SolveManyOf, ManyChecked, ManyWorked};
+use answers::Measured;
+use answers::refusal;
 use checks::Ruling;
-use checks::rule::refusal;
 use many_checks::Lengths;
 use many_checks::judge;
 use many_sets::all_sets;
@@ -12,7 +13,7 @@ use method::Answer;
 use method::Found;
 use method::Settings;
 use method::Sides;
-use solve::clear::clear;
+use rooms::clear;
 use solve::prepare::prepare;
 
 // Past check 6, in rooms of just the size needed: the distances, check 7, the cast prepared, and then all sets.
@@ -32,11 +33,14 @@ fn work(
     ensures { λ r. ⌜ ManyWorked sides (now (labels .entry)) (now (values .entry)) settings sets (now (pressures .entry)) (now (answers .entry)) r (now (pressures .exit)) (now (answers .exit)) ⌝ }
 {
     let walked = walks::distances(words, labels, sides);
-    let depth = walked.depth;
     let sealed = walked.sealed;
     match sealed {
         Found::At(place) => refusal(7, place),
         Found::Nowhere => {
+            let of = Measured {
+                interior: grid::interior::interior(labels, sides),
+                depth: walked.depth,
+            };
             let plan = prepare(sides, labels, settings.levels, bytes, words);
             all_sets(
                 sets,
@@ -44,7 +48,7 @@ fn work(
                 labels,
                 values,
                 settings,
-                depth,
+                of,
                 plan,
                 &bytes[..],
                 &words[..],

@@ -16,7 +16,7 @@ use Rattle.theory.specs.Answered.{Accepted}
 use Rattle.theory.proofs.Verdicts.{AllPass, Judged, fine, faulty, judge, no-fault}
 use Rattle.theory.proofs.Accepted.{accepted-is}
 use Rattle.theory.proofs.Question3.{question-3}
-use Rattle.many_checks.specs.Many.{AskedMany, SolvedMany, manySize, fields, fieldCount, stretch, endToEnd, single, manyLengthsFit, manyChecksBefore7, manyChecksFrom7, manyUntouched, manyHandedBack, setPressures, setFields, solvingMany}
+use Rattle.method.specs.Many.{AskedMany, SolvedMany, manySize, fields, fieldCount, stretch, endToEnd, single, manyLengthsFit, manyChecksBefore7, manyChecksFrom7, manyUntouched, manyHandedBack, setPressures, setFields, solvingMany}
 use Rattle.many_checks.specs.ManyAnswered.{AnswerOfSet, ofSet}
 use Rattle.many_checks.proofs.ManyLaws.{Lent, lent, laid-stretch, fields-one, set-pressures-length, set-fields-length}
 

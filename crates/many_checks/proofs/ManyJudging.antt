@@ -14,7 +14,8 @@ use Rattle.method.specs.declared.Settings.{Settings}
 use Rattle.method.specs.declared.Found.{Found}
 use Rattle.method.specs.Cast.{cells, between, sidesFit, settingsFit, interior, first, badLabel}
 use Rattle.method.specs.Answers.{verdict, fault, byteNeed, floatNeed, wordNeed}
-use Rattle.theory.proofs.Sides.{Fit, fit}
+use Rattle.theory.specs.Sides.{Fit}
+use Rattle.theory.proofs.Sides.{fit}
 use Rattle.checks.specs.declared.Ruling.{Ruling}
 use Rattle.checks.specs.declared.Ruling.the-variants.{Refused, Allowed}
 use Rattle.checks.specs.Rulings.{rulingOf, rulingBy, firstOf}
@@ -22,7 +23,7 @@ use Rattle.checks.specs.Faults.{badLabelAt}
 use Rattle.checks.proofs.RuleLaws.{fails-at, passes-on, ruling-more, ruling-last, fault-no, fault-yes}
 use Rattle.checks.proofs.CheckLaws.{between-low, between-rest, label-fault}
 use Rattle.many_checks.specs.declared.Lengths.{Lengths}
-use Rattle.many_checks.specs.Many.{AskedMany, manySize, fieldCount, setsFit, manyLengthsFit, manyChecksBefore7}
+use Rattle.method.specs.Many.{AskedMany, manySize, fieldCount, setsFit, manyLengthsFit, manyChecksBefore7}
 use Rattle.many_checks.specs.ManyRulings.{lengthsOf, lengthsBy, contentRuling, manyRuling}
 
 -- a product of any u32 with at most 32,768 does not wrap
@@ -47,14 +48,14 @@ module _ (n sets labels : ℕ) (of : Lengths) where
       unfolding lengthsBy
       pressures-wrong h = rw (eq-eqb labels n la, eq-eqb (of .values) (sets * n) (va ∙ e), ne-eqb (of .pressures) (sets * n) (λ q. h (q ∙ sym e)))
 
-      module _ (pa : of .pressures ≡ all) (fs : ℕ) (f : fs ≡ sets * 6) where
+      module _ (pa : of .pressures ≡ all) (fs : ℕ) (f : fs ≡ sets * 8) where
         pub answers-wrong : (of .answers ≡ fs → ⊥) → false ≡ lengthsBy n sets labels of
         unfolding lengthsBy
         answers-wrong h = rw (
           eq-eqb labels n la,
           eq-eqb (of .values) (sets * n) (va ∙ e),
           eq-eqb (of .pressures) (sets * n) (pa ∙ e),
-          ne-eqb (of .answers) (sets * 6) (λ q. h (q ∙ sym f)),
+          ne-eqb (of .answers) (sets * 8) (λ q. h (q ∙ sym f)),
         )
 
         module _ (aa : of .answers ≡ fs) where
@@ -64,7 +65,7 @@ module _ (n sets labels : ℕ) (of : Lengths) where
             eq-eqb labels n la,
             eq-eqb (of .values) (sets * n) (va ∙ e),
             eq-eqb (of .pressures) (sets * n) (pa ∙ e),
-            eq-eqb (of .answers) (sets * 6) (aa ∙ f),
+            eq-eqb (of .answers) (sets * 8) (aa ∙ f),
           )
 
           pub bytes-short : of .bytes < 2 * n + 16 → false ≡ lengthsBy n sets labels of

@@ -19,7 +19,7 @@ use Rattle.method.specs.Calls.{Asked, size, Solved, lengthsFit, checksBefore7, 
 use Rattle.theory.proofs.Verdicts.{AllPass, no-fault}
 use Rattle.theory.proofs.Pressures.{length-rounded}
 use Rattle.theory.proofs.Outcome.{Outcome, early, cut-off, unended, right, outcome}
-use Rattle.many_checks.specs.Many.{AskedMany, manySize, fields, fieldCount, stretch, endToEnd, single, manyLengthsFit, setPressures, setFields}
+use Rattle.method.specs.Many.{AskedMany, manySize, fields, fieldCount, stretch, endToEnd, single, manyLengthsFit, setPressures, setFields}
 
 -- ---- stretches
 -- stretch s ends where the next begins, and no later than the last
@@ -65,7 +65,7 @@ fields-length r = refl
 read-back : List ℤ → Answer
 read-back l =
     let at : ℕ → ℕ = λ i. natAbs (getD l i (pos 0)) in
-    record { number = at 0; place = at 1; rounds = at 2; worst = at 3; interior = at 4; depth = at 5 }
+    record { number = at 0; place = at 1; rounds = at 2; worst = at 3; worstcell = at 4; worstvalue = getD l 5 (pos 0); interior = at 6; depth = at 7 }
 
 pub fields-one : (p q : Answer) → fields p ≡ fields q → p ≡ q
 unfolding fields read-back

@@ -12,7 +12,7 @@ use Rattle.checks.specs.declared.Ruling.{Ruling}
 use Rattle.checks.specs.declared.Ruling.the-variants.{Refused}
 use Rattle.checks.specs.Rulings.{rulingBy, firstOf}
 use Rattle.checks.specs.Faults.{badLabelAt}
-use Rattle.many_checks.specs.Many.{AskedMany, fieldCount, setsFit}
+use Rattle.method.specs.Many.{AskedMany, fieldCount, setsFit}
 use Rattle.many_checks.specs.declared.Lengths.{Lengths}
 
 -- the lengths of what is lent, beside the labels

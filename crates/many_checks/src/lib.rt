@@ -4,8 +4,8 @@ ghost use mathlib.Core.Bool.{_&&_};
 ghost use Prim.Native.Nat.{_*_, _≤_};
 ghost use lib.ListN.{length};
 ghost use Rattle.method.specs.Cast.{cells, settingsFit};
-ghost use Rattle.theory.proofs.Sides.{Fit};
-ghost use Rattle.many_checks.specs.Many.{setsFit};
+ghost use Rattle.theory.specs.Sides.{Fit};
+ghost use Rattle.method.specs.Many.{setsFit};
 ghost use Rattle.many_checks.specs.ManyRulings.{lengthsBy, contentRuling, manyRuling};
 use checks::Ruling;
 use checks::cast::bad_label;
@@ -51,7 +51,7 @@ fn lengths_fit(n: usize, sets: u32, labels: usize, of: Lengths) -> bool
     if of.pressures != all {
         return false;
     }
-    if of.answers != laid(sets, 6) {
+    if of.answers != laid(sets, 8) {
         return false;
     }
     if of.bytes < 2 * n + 16 {

@@ -16,23 +16,24 @@ use Rattle.method.specs.declared.Settings.{Settings}
 use Rattle.method.specs.declared.Answer.{Answer}
 use Rattle.method.specs.declared.Found.{Found}
 use Rattle.method.specs.declared.Found.the-variants.{Nowhere, At}
-use Rattle.method.specs.Cast.{depth as Cast·depth}
 use Rattle.method.specs.Cast.{Cast, cells, sealed, first, between, sidesFit, settingsFit, badLabel, badValue, interior}
 use Rattle.method.specs.Answers.{Verdict, passed, refused, verdict, refusal, fault, floatNeed}
 use Rattle.method.specs.Calls.{Asked, Solved, lengthsFit, checksBefore7, untouched, handedBack, solving, labelFault, valueFault}
-use Rattle.theory.proofs.Sides.{Fit, fit}
+use Rattle.theory.specs.Sides.{Fit}
+use Rattle.theory.proofs.Sides.{fit}
 use Rattle.theory.proofs.Verdicts.{AllPass, pass-all, no-fault-in}
 use Rattle.grid.proofs.Steps.{cells-most}
 use Rattle.checks.specs.Faults.{badValueAt}
 use Rattle.checks.proofs.RuleLaws.{fails-at, passes-on, fault-no}
 use Rattle.checks.proofs.CheckLaws.{value-fault}
+use Rattle.answers.specs.declared.Measured.{Measured}
 use Rattle.rounds.specs.declared.Plan.{Plan}
 use Rattle.rounds.specs.Rounds.{castOf}
 use Rattle.solve.specs.Work.{PlanOf, RunAsked, Ran, Worked, fromSeven}
 use Rattle.solve.proofs.Working.{worked-run}
 use Rattle.solve.proofs.Judging.{both}
 use Rattle.solve.proofs.Solving.{in-range, past-six, before-seven}
-use Rattle.many_checks.specs.Many.{fields, fieldCount}
+use Rattle.method.specs.Many.{fields, fieldCount}
 use Rattle.many_sets.specs.Sets.{Past, CastReady, SameSet, SetOf}
 
 -- ---- what the rounds ask
@@ -45,11 +46,12 @@ module _ (t : Settings) (e : settingsFit t ≡ true) where
   unfolding settingsFit
   rounds-known = in-range 0 1000 (t .rounds) (both (between 1 6 (t .levels)) (between 0 1000 (t .rounds)) (both (between 0 1000000 (t .tolerance)) _ e .1) .1) .1
 
-pub ready-run : {g : Sides} {ls : List ℕ} {t : Settings} {depth : ℕ} {plan : Plan} {bytes words : List ℕ} {floats : ℕ}
-    → CastReady g ls t depth plan bytes words floats → (vs : List ℤ) (pressures : ℕ) → length vs ≡ cells g → pressures ≡ cells g
-    → RunAsked g ls vs t plan bytes words floats pressures
+pub ready-run : {g : Sides} {ls : List ℕ} {t : Settings} {of : Measured} {plan : Plan} {bytes words : List ℕ} {floats : ℕ}
+    → CastReady g ls t of plan bytes words floats → (vs : List ℤ) (pressures : ℕ) → length vs ≡ cells g → pressures ≡ cells g
+    → RunAsked g ls vs t of plan bytes words floats pressures
 unfolding floatNeed
 ready-run {g} {ls} {t} z vs pressures ev ep = record {
+  of-cast = z .measured;
   ready = record {
     planned = record {
       prepared = record { levels = z .planned .prepared; size = ap cells (sym (z .planned .sides)); roomy = omega (arith, z .floats-long) };
@@ -65,8 +67,8 @@ ready-run {g} {ls} {t} z vs pressures ev ep = record {
   pressed = ep;
 }
 
-pub value-asked : {g : Sides} {ls : List ℕ} {t : Settings} {depth : ℕ} {plan : Plan} {bytes words : List ℕ} {floats : ℕ}
-    → CastReady g ls t depth plan bytes words floats → (vs : List ℤ) → length vs ≡ cells g
+pub value-asked : {g : Sides} {ls : List ℕ} {t : Settings} {of : Measured} {plan : Plan} {bytes words : List ℕ} {floats : ℕ}
+    → CastReady g ls t of plan bytes words floats → (vs : List ℤ) → length vs ≡ cells g
     → (length ls ≤ 32768) × ((length ls ≤ length ls) × (length ls ≤ length vs))
 value-asked {g} z vs e =
     let most : cells g ≤ 32768 = cells-most g (fit g (z .past .sides)) in
@@ -113,11 +115,11 @@ module _ (g : Sides) (ls : List ℕ) (vs : List ℤ) (t : Settings) (ps : List �
         (q ∙ sym (ap (λ (x : Solved). x .answer) s), sym (z .pressures) ∙ sym (ap (λ (x : Solved). x .pressures) s));
   }
 
-  pub set-run : (d : ℕ) (r : Answer) (qs : List ℤ) → w ≡ Nowhere → d ≡ Cast·depth g ls → Ran (castOf g ls vs) t d ps r qs → SetOf g ls vs t ps r qs
+  pub set-run : (r : Answer) (qs : List ℤ) → w ≡ Nowhere → Ran (castOf g ls vs) t ps r qs → SetOf g ls vs t ps r qs
   unfolding handedBack
-  set-run d r qs h ed ran = record {
+  set-run r qs h ran = record {
     is = λ a z.
-        let worked : Worked (castOf g ls vs) t ps r qs = worked-run g ls vs t ps r (sealed g ls) refl qs d (p .none-sealed) ed ran in
+        let worked : Worked (castOf g ls vs) t ps r qs = worked-run g ls vs t ps r (sealed g ls) refl qs (p .none-sealed) ran in
         let s : solving a ≡ handedBack a r qs = past-six a (five-passes g ls vs t ps p a z (sym found ∙ h)) ∙ worked .is a (z .cast) (z .settings) (z .pressures) in
         (sym (ap (λ (x : Solved). x .answer) s), sym (ap (λ (x : Solved). x .pressures) s));
   }
@@ -125,23 +127,27 @@ module _ (g : Sides) (ls : List ℕ) (vs : List ℤ) (t : Settings) (ps : List �
 pub ruleset setting = (needs, ready-run, set-refused, set-run)
 
 -- ---- an answer's fields, stored one after the other
-stored : (l : List ℤ) (a b c d e f : ℤ) → length l ≡ fieldCount → set (set (set (set (set (set l 0 a) 1 b) 2 c) 3 d) 4 e) 5 f ≡ a ∷ b ∷ c ∷ d ∷ e ∷ f ∷ []
-stored [] a b c d e f h = absurd (omega arith)
-stored (u ∷ []) a b c d e f h = absurd (omega arith)
-stored (u ∷ v ∷ []) a b c d e f h = absurd (omega arith)
-stored (u ∷ v ∷ w ∷ []) a b c d e f h = absurd (omega arith)
-stored (u ∷ v ∷ w ∷ x ∷ []) a b c d e f h = absurd (omega arith)
-stored (u ∷ v ∷ w ∷ x ∷ y ∷ []) a b c d e f h = absurd (omega arith)
-stored (u ∷ v ∷ w ∷ x ∷ y ∷ z ∷ []) a b c d e f h = refl
-stored (u ∷ v ∷ w ∷ x ∷ y ∷ z ∷ q ∷ l) a b c d e f h = absurd (omega arith)
+stored : (l : List ℤ) (a b c d e f g i : ℤ) → length l ≡ fieldCount
+    → set (set (set (set (set (set (set (set l 0 a) 1 b) 2 c) 3 d) 4 e) 5 f) 6 g) 7 i ≡ a ∷ b ∷ c ∷ d ∷ e ∷ f ∷ g ∷ i ∷ []
+stored [] a b c d e f g i h = absurd (omega arith)
+stored (u ∷ []) a b c d e f g i h = absurd (omega arith)
+stored (u ∷ v ∷ []) a b c d e f g i h = absurd (omega arith)
+stored (u ∷ v ∷ w ∷ []) a b c d e f g i h = absurd (omega arith)
+stored (u ∷ v ∷ w ∷ x ∷ []) a b c d e f g i h = absurd (omega arith)
+stored (u ∷ v ∷ w ∷ x ∷ y ∷ []) a b c d e f g i h = absurd (omega arith)
+stored (u ∷ v ∷ w ∷ x ∷ y ∷ z ∷ []) a b c d e f g i h = absurd (omega arith)
+stored (u ∷ v ∷ w ∷ x ∷ y ∷ z ∷ p ∷ []) a b c d e f g i h = absurd (omega arith)
+stored (u ∷ v ∷ w ∷ x ∷ y ∷ z ∷ p ∷ q ∷ []) a b c d e f g i h = refl
+stored (u ∷ v ∷ w ∷ x ∷ y ∷ z ∷ p ∷ q ∷ o ∷ l) a b c d e f g i h = absurd (omega arith)
 
 small : (n : ℕ) → n < 2 ^ 32 → toZ w64 n ≡ pos n
 small n h = toZ-pos w64 (omega arith)
 
-pub fields-stored : (l : List ℤ) (r : Answer) → length l ≡ fieldCount
-    → r .number < 2 ^ 32 → r .place < 2 ^ 32 → r .rounds < 2 ^ 32 → r .worst < 2 ^ 32 → r .interior < 2 ^ 32 → r .depth < 2 ^ 32
-    → set (set (set (set (set (set l 0 (toZ w64 (r .number))) 1 (toZ w64 (r .place))) 2 (toZ w64 (r .rounds))) 3 (toZ w64 (r .worst))) 4 (toZ w64 (r .interior))) 5 (toZ w64 (r .depth)) ≡ fields r
+pub fields-stored : (l : List ℤ) (r : Answer) (v : ℤ) → length l ≡ fieldCount → v ≡ r .worstvalue
+    → r .number < 2 ^ 32 → r .place < 2 ^ 32 → r .rounds < 2 ^ 32 → r .worst < 2 ^ 32 → r .worstcell < 2 ^ 32 → r .interior < 2 ^ 32 → r .depth < 2 ^ 32
+    → set (set (set (set (set (set (set (set l 0 (toZ w64 (r .number))) 1 (toZ w64 (r .place))) 2 (toZ w64 (r .rounds))) 3 (toZ w64 (r .worst))) 4 (toZ w64 (r .worstcell))) 5 v) 6 (toZ w64 (r .interior))) 7 (toZ w64 (r .depth)) ≡ fields r
 unfolding fields
-fields-stored l r h a b c d e f =
-    stored l _ _ _ _ _ _ h
-    ∙ ap₂ _∷_ (small (r .number) a) (ap₂ _∷_ (small (r .place) b) (ap₂ _∷_ (small (r .rounds) c) (ap₂ _∷_ (small (r .worst) d) (ap₂ _∷_ (small (r .interior) e) (ap₂ _∷_ (small (r .depth) f) refl)))))
+fields-stored l r v h ev a b c d e f g =
+    stored l _ _ _ _ _ _ _ _ h
+    ∙ ap₂ _∷_ (small (r .number) a) (ap₂ _∷_ (small (r .place) b) (ap₂ _∷_ (small (r .rounds) c) (ap₂ _∷_ (small (r .worst) d)
+    (ap₂ _∷_ (small (r .worstcell) e) (ap₂ _∷_ ev (ap₂ _∷_ (small (r .interior) f) (ap₂ _∷_ (small (r .depth) g) refl)))))))

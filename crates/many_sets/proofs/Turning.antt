@@ -18,9 +18,10 @@ use Rattle.method.specs.Cast.{cells}
 use Rattle.method.specs.Calls.{Asked, solving}
 use Rattle.theory.proofs.Sides.{fit}
 use Rattle.grid.proofs.Steps.{cells-most}
+use Rattle.answers.specs.declared.Measured.{Measured}
 use Rattle.rounds.specs.declared.Plan.{Plan}
 use Rattle.rounds.specs.Rounds.{castOf}
-use Rattle.many_checks.specs.Many.{AskedMany, manySize, fields, fieldCount, stretch, endToEnd, single, manyLengthsFit, setPressures, setFields}
+use Rattle.method.specs.Many.{AskedMany, manySize, fields, fieldCount, stretch, endToEnd, single, manyLengthsFit, setPressures, setFields}
 use Rattle.many_checks.proofs.ManyLaws.{next-start, stretch-ends, laid-length, Lent, lent, single-fits, set-pressures-length, set-fields-length}
 use Rattle.many_sets.specs.Sets.{CastReady, SameSet, SetOf, part, placed, Turned, SameCall, Done, SetsOf, SetsAsked}
 
@@ -132,9 +133,9 @@ module _ (g : Sides) (ls : List ℕ) (vs : List ℤ) (t : Settings) (sets : ℕ)
       none-left m l e = ap (λ k. drop k l) (sym e) ∙ drop-length l
 
 -- ---- what a turn of the loop asks, and where it goes on
-pub ready-again : {g : Sides} {ls : List ℕ} {t : Settings} {depth : ℕ} {plan : Plan} {bytes words : List ℕ} {floats : ℕ} (m : ℕ)
-    → CastReady g ls t depth plan bytes words floats → m ≡ floats → CastReady g ls t depth plan bytes words m
-ready-again m z e = record { past = z .past; deep = z .deep; planned = z .planned; floats-long = e ∙ z .floats-long }
+pub ready-again : {g : Sides} {ls : List ℕ} {t : Settings} {of : Measured} {plan : Plan} {bytes words : List ℕ} {floats : ℕ} (m : ℕ)
+    → CastReady g ls t of plan bytes words floats → m ≡ floats → CastReady g ls t of plan bytes words m
+ready-again m z e = record { past = z .past; measured = z .measured; planned = z .planned; floats-long = e ∙ z .floats-long }
 
 pub within : (s k n from m : ℕ) → s < k → from ≡ s * n → m ≡ k * n → from + n ≤ m
 within s k n from m h e q = omega (arith, stretch-ends s k n h)
@@ -142,7 +143,7 @@ within s k n from m h e q = omega (arith, stretch-ends s k n h)
 pub next-from : (s n m from : ℕ) → m ≡ n → from ≡ s * n → from + m ≡ (s + 1) * n
 next-from s n m from e q = ap₂ _+_ q e ∙ next-start s n ∙ ap (λ k. k * n) (sym (add-one s))
 
-pub from-fits : {g : Sides} {ls : List ℕ} {t : Settings} {depth : ℕ} {plan : Plan} {bytes words : List ℕ} {floats : ℕ} → CastReady g ls t depth plan bytes words floats
+pub from-fits : {g : Sides} {ls : List ℕ} {t : Settings} {of : Measured} {plan : Plan} {bytes words : List ℕ} {floats : ℕ} → CastReady g ls t of plan bytes words floats
     → (s k from : ℕ) → s < k → k ≤ 64 → from ≡ s * cells g → from + length ls < 2 ^ 64
 from-fits {g} z s k from h l e =
     let most : k * cells g ≤ 64 * 32768 = mul-le-mul l (cells-most g (fit g (z .past .sides))) in

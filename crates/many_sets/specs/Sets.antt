@@ -11,13 +11,13 @@ use Rattle.method.specs.declared.Settings.{Settings}
 use Rattle.method.specs.declared.Answer.{Answer}
 use Rattle.method.specs.declared.Found.the-variants.{Nowhere}
 use Rattle.method.specs.Cast.{cells, sidesFit, settingsFit, badLabel, interior, sealed}
-use Rattle.method.specs.Cast as Cast
 use Rattle.method.specs.Answers.{floatNeed}
 use Rattle.method.specs.Calls.{Asked, lengthsFit, solving}
-use Rattle.many_checks.specs.Many.{AskedMany, manySize, fields, fieldCount, endToEnd, manyLengthsFit, setPressures, setFields}
+use Rattle.method.specs.Many.{AskedMany, manySize, fields, fieldCount, endToEnd, manyLengthsFit, setPressures, setFields}
+use Rattle.answers.specs.declared.Measured.{Measured}
 use Rattle.rounds.specs.declared.Plan.{Plan}
 use Rattle.rounds.specs.Rounds.{castOf}
-use Rattle.solve.specs.Work.{PlanOf}
+use Rattle.solve.specs.Work.{PlanOf, OfCast}
 
 -- what the whole call's checks leave known of the cast and the settings
 pub record Past (g : Sides) (ls : List ℕ) (t : Settings) : Type 0 where
@@ -28,10 +28,10 @@ pub record Past (g : Sides) (ls : List ℕ) (t : Settings) : Type 0 where
   pub air : eqb (interior g ls) 0 ≡ false
   pub none-sealed : sealed g ls ≡ Nowhere
 
--- the cast is prepared, once for all sets: labels and lists as `solve` prepares them, the depth, and a binary64 room of just the size needed
-pub record CastReady (g : Sides) (ls : List ℕ) (t : Settings) (depth : ℕ) (plan : Plan) (bytes words : List ℕ) (floats : ℕ) : Type 0 where
+-- the cast is prepared, once for all sets: labels and lists as `solve` prepares them, its air cells and depth, and a binary64 room of just the size needed
+pub record CastReady (g : Sides) (ls : List ℕ) (t : Settings) (of : Measured) (plan : Plan) (bytes words : List ℕ) (floats : ℕ) : Type 0 where
   pub past : Past g ls t
-  pub deep : depth ≡ Cast.depth g ls
+  pub measured : OfCast g ls of
   pub planned : PlanOf g ls (t .levels) plan bytes words
   pub floats-long : floats ≡ floatNeed (cells g)
 

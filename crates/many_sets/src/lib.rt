@@ -3,10 +3,11 @@ ghost use mathlib.Core.Path.{_≡_};
 ghost use Prim.Native.Nat.{_+_, _≤_};
 ghost use lib.ListN.{length};
 ghost use Rattle.method.specs.Cast.{cells};
-ghost use Rattle.many_checks.specs.Many.{fields, fieldCount};
+ghost use Rattle.method.specs.Many.{fields, fieldCount};
 ghost use Rattle.many_sets.specs.Sets.{CastReady, SetOf, Turned, SetsAsked, SetsOf};
+use answers::Measured;
+use answers::refusal;
 use checks::cast::bad_value;
-use checks::rule::refusal;
 use method::Answer;
 use method::Found;
 use method::Settings;
@@ -22,8 +23,10 @@ fn put_answer(answers: &mut [i64], answer: Answer)
     answers[1] = answer.place as i64;
     answers[2] = answer.rounds as i64;
     answers[3] = answer.worst as i64;
-    answers[4] = answer.interior as i64;
-    answers[5] = answer.depth as i64;
+    answers[4] = answer.worstcell as i64;
+    answers[5] = answer.worstvalue as i64;
+    answers[6] = answer.interior as i64;
+    answers[7] = answer.depth as i64;
 }
 
 // One set: check 5, and then its rounds. The labels and lists stay as they are, and nothing is asked of what the binary64 room holds.
@@ -32,14 +35,14 @@ fn one_set(
     labels: &[u8],
     values: &[i32],
     settings: Settings,
-    depth: u32,
+    of: Measured,
     plan: Plan,
     bytes: &[u8],
     words: &[u32],
     floats: &mut [f64],
     pressures: &mut [i64],
 ) -> Answer
-    requires { ⌜ CastReady sides (now labels) settings depth plan (now bytes) (now words) (length (now floats)) ⌝ }
+    requires { ⌜ CastReady sides (now labels) settings of plan (now bytes) (now words) (length (now floats)) ⌝ }
     requires { ⌜ (length (now values) ≡ cells sides) × (length (now pressures) ≡ cells sides) ⌝ }
     ensures { λ r. ⌜ SetOf sides (now (labels .entry)) (now (values .entry)) settings (now (pressures .entry)) r (now (pressures .exit)) ⌝ }
 {
@@ -50,7 +53,7 @@ fn one_set(
             labels,
             values,
             settings,
-            depth,
+            of,
             plan,
             bytes,
             words,
@@ -68,7 +71,7 @@ fn take_turn(
     labels: &[u8],
     values: &[i32],
     settings: Settings,
-    depth: u32,
+    of: Measured,
     plan: Plan,
     bytes: &[u8],
     words: &[u32],
@@ -76,7 +79,7 @@ fn take_turn(
     pressures: &mut [i64],
     answers: &mut [i64],
 )
-    requires { ⌜ CastReady sides (now labels) settings depth plan (now bytes) (now words) (length (now floats)) ⌝ }
+    requires { ⌜ CastReady sides (now labels) settings of plan (now bytes) (now words) (length (now floats)) ⌝ }
     requires { ⌜ (from + cells sides ≤ length (now values)) × ((from + cells sides ≤ length (now pressures)) × ((at + fieldCount ≤ length (now answers)) × (at ≤ 1000))) ⌝ }
     ensures { λ _. ⌜ Turned sides (now (labels .entry)) (now (values .entry)) settings from at (now (pressures .entry)) (now (answers .entry)) (now (pressures .exit)) (now (answers .exit)) ⌝ }
 {
@@ -86,14 +89,14 @@ fn take_turn(
         labels,
         &values[from..to],
         settings,
-        depth,
+        of,
         plan,
         bytes,
         words,
         floats,
         &mut pressures[from..to],
     );
-    let end = at + 6;
+    let end = at + 8;
     put_answer(&mut answers[at..end], answer);
 }
 
@@ -104,7 +107,7 @@ pub fn all_sets(
     labels: &[u8],
     values: &[i32],
     settings: Settings,
-    depth: u32,
+    of: Measured,
     plan: Plan,
     bytes: &[u8],
     words: &[u32],
@@ -112,7 +115,7 @@ pub fn all_sets(
     pressures: &mut [i64],
     answers: &mut [i64],
 )
-    requires { ⌜ CastReady sides (now labels) settings depth plan (now bytes) (now words) (length (now floats)) ⌝ }
+    requires { ⌜ CastReady sides (now labels) settings of plan (now bytes) (now words) (length (now floats)) ⌝ }
     requires { ⌜ SetsAsked sides (now values) sets (length (now pressures)) (length (now answers)) ⌝ }
     ensures { λ _. ⌜ SetsOf sides (now (labels .entry)) (now (values .entry)) settings sets (now (pressures .entry)) (now (answers .entry)) (now (pressures .exit)) (now (answers .exit)) ⌝ }
 {
@@ -127,7 +130,7 @@ pub fn all_sets(
             labels,
             values,
             settings,
-            depth,
+            of,
             plan,
             bytes,
             words,
@@ -136,7 +139,7 @@ pub fn all_sets(
             answers,
         );
         from += labels.len();
-        at += 6;
+        at += 8;
         s += 1;
     }
 }

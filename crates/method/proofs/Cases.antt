@@ -1,4 +1,4 @@
--- Document 01, "Numbers to check by hand", a to l, with i and j as document 02 has them (wishes 4 and 3), and the example of "The program": one table, one claim,
+-- Document 01, "Numbers to check by hand", a to l, with c, i and j as document 02 has them (wishes 5, 4 and 3), and the example of "The program": one table, one claim,
 -- computed by the checker. Assumes nothing.
 use Prim.Native.Nat.{ℕ, zero, suc, _+_, _-_, _*_, _^_}
 use mathlib.Core.Bool.{true, false}
@@ -48,10 +48,15 @@ call n ls vs tolerance rounds = record {
   words = replicate (2 * n + 1) 5;
 }
 
--- an answer: number, place, rounds, worst, interior, depth
+-- an answer: number, place, rounds, worst, interior, depth; what is not named is 0
 abbrev pub answer : ℕ → ℕ → ℕ → ℕ → ℕ → ℕ → Answer
 answer num place rounds worst interior depth =
-    record { number = num; place = place; rounds = rounds; worst = worst; interior = interior; depth = depth }
+    record { number = num; place = place; rounds = rounds; worst = worst; worstcell = 0; worstvalue = pos 0; interior = interior; depth = depth }
+
+-- the same with worstcell and worstvalue after worst
+abbrev pub answerAt : ℕ → ℕ → ℕ → ℕ → ℕ → ℤ → ℕ → ℕ → Answer
+answerAt num place rounds worst cell left interior depth =
+    record { number = num; place = place; rounds = rounds; worst = worst; worstcell = cell; worstvalue = left; interior = interior; depth = depth }
 
 -- the same call at the end: its rooms cleared up to the need of bytes, floats and words; or everything lent as it was
 abbrev pub ends : ℕ → ℕ → ℕ → Answer → List ℤ → Solved
@@ -76,6 +81,10 @@ sevens n = replicate n (pos 7)
 -- labels 1 0 1, values 0 1 0
 abbrev pub half : ℕ → ℕ → Asked
 half tolerance rounds = call 3 (1 ∷ 0 ∷ 1 ∷ []) (pos 0 ∷ pos 1 ∷ pos 0 ∷ []) tolerance rounds
+
+-- labels 1 0 0 1, sources -5 and 5, so that with pressures of 0 two residuals have the same size
+abbrev pub twice : Asked
+twice = call 4 (1 ∷ 0 ∷ 0 ∷ 1 ∷ []) (pos 0 ∷ negsuc 4 ∷ pos 5 ∷ pos 0 ∷ []) 5 5
 
 -- x after a round
 abbrev pub xOf : Turn → List Float
@@ -155,7 +164,7 @@ table =
     case (solving (half 0 5)) (ends 22 88 6 (answer 9 0 1 0 1 1) (sevens 3))
     ∷ case (xOf (round (row 3) (1 ∷ 0 ∷ 1 ∷ []) 0 (start (half 0 5 .cast)))) (+0 ∷ ½ ∷ +0 ∷ [])
     ∷ case (solving (half 0 1)) (ends 22 88 6 (answer 8 0 1 0 1 1) (sevens 3))
-    ∷ case (solving (half 1 5)) (ends 22 88 6 (answer 0 0 0 1 1 1) (pos 0 ∷ pos 0 ∷ pos 0 ∷ []))
+    ∷ case (solving (half 1 5)) (ends 22 88 6 (answerAt 0 0 0 1 1 (pos 1) 1 1) (pos 0 ∷ pos 0 ∷ pos 0 ∷ []))
     ∷ case (solving (call 5 (1 ∷ 0 ∷ 2 ∷ 0 ∷ 2 ∷ []) (replicate 5 (pos 0)) 0 5)) (ends 26 104 10 (answer 7 3 0 0 0 0) (sevens 5))
     ∷ case (solving (call 2 (1 ∷ 2 ∷ []) (replicate 2 (pos 0)) 0 5)) (stays (call 2 (1 ∷ 2 ∷ []) (replicate 2 (pos 0)) 0 5) (answer 6 0 0 0 0 0))
     ∷ case (map (slope (pos 0 ∷ pos 10 ∷ pos 20 ∷ pos 30 ∷ [])) (1 ∷ 2 ∷ [])) (pos 0 ∷ pos 0 ∷ [])
@@ -167,13 +176,14 @@ table =
     ∷ case (map tick (2^41f ∷ 2^41+1f ∷ nan ∷ [])) (Whole (pos (2 ^ 41)) ∷ Refused ∷ Refused ∷ [])
     ∷ case (solving faulty .answer) (answer 4 4 0 0 0 0)
     ∷ case (map tick (-1½ ∷ -2½ ∷ below½ ∷ 2^41+½f ∷ -2^41-½f ∷ [])) (Whole (negsuc 1) ∷ Whole (negsuc 1) ∷ Whole (pos 0) ∷ Whole (pos (2 ^ 41)) ∷ Whole (negsuc (2 ^ 41 - 1)) ∷ [])
-    ∷ case (program example) (text "answer=0\nplace=0\nrounds=1\nworst=0\ninterior=1\ndepth=1\ncell=10\ncell=15\ncell=20\n")
+    ∷ case (solving twice) (ends 24 96 8 (answerAt 0 0 0 5 1 (negsuc 4) 2 1) (replicate 4 (pos 0)))
+    ∷ case (program example) (text "answer=0\nplace=0\nrounds=1\nworst=0\nworstcell=1\nworstvalue=0\ninterior=1\ndepth=1\ncell=10\ncell=15\ncell=20\n")
     ∷ []
 
 -- THE CLAIM
 pub all-hold : AllHold table
 unfolding table computing
-all-hold = (refl, (refl, (refl, (refl, (refl, (refl, (refl, (refl, (refl, (refl, (refl, (refl, (refl, (refl, (refl, (refl, tt))))))))))))))))
+all-hold = (refl, (refl, (refl, (refl, (refl, (refl, (refl, (refl, (refl, (refl, (refl, (refl, (refl, (refl, (refl, (refl, (refl, tt)))))))))))))))))
 
 -- ---- each case by itself
 
@@ -189,7 +199,7 @@ pub case-b : solving (half 0 1) ≡ ends 22 88 6 (answer 8 0 1 0 1 1) (sevens 3)
 unfolding table
 case-b = holds-at table all-hold 2
 
-pub case-c : solving (half 1 5) ≡ ends 22 88 6 (answer 0 0 0 1 1 1) (pos 0 ∷ pos 0 ∷ pos 0 ∷ [])
+pub case-c : solving (half 1 5) ≡ ends 22 88 6 (answerAt 0 0 0 1 1 (pos 1) 1 1) (pos 0 ∷ pos 0 ∷ pos 0 ∷ [])
 unfolding table
 case-c = holds-at table all-hold 3
 
@@ -238,6 +248,11 @@ pub case-ties : map tick (-1½ ∷ -2½ ∷ below½ ∷ 2^41+½f ∷ -2^41-½f �
 unfolding table
 case-ties = holds-at table all-hold 14
 
-pub case-program : program example ≡ text "answer=0\nplace=0\nrounds=1\nworst=0\ninterior=1\ndepth=1\ncell=10\ncell=15\ncell=20\n"
+-- wish 5: the first of two cells of the same size, and its sign
+pub case-worst : solving twice ≡ ends 24 96 8 (answerAt 0 0 0 5 1 (negsuc 4) 2 1) (replicate 4 (pos 0))
 unfolding table
-case-program = holds-at table all-hold 15
+case-worst = holds-at table all-hold 15
+
+pub case-program : program example ≡ text "answer=0\nplace=0\nrounds=1\nworst=0\nworstcell=1\nworstvalue=0\ninterior=1\ndepth=1\ncell=10\ncell=15\ncell=20\n"
+unfolding table
+case-program = holds-at table all-hold 16

@@ -1,3 +1,5 @@
 -- The hand cases.
 pub mod Cases
 pub mod OldCases
+pub mod OldProgramCases
+pub mod ManyCases

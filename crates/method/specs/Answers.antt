@@ -3,19 +3,31 @@ use Prim.Native.Nat.{ℕ, zero, suc, _+_, _*_}
 use mathlib.Core.Bool.{Bool, true, false}
 use mathlib.Core.List.{List, [], _∷_, _++_}
 use lib.ListN.{drop, replicate}
+use lib.IntN.{ℤ, pos}
 use Rattle.method.specs.declared.Answer.{Answer}
 use Rattle.method.specs.declared.Found.{Found}
 use Rattle.method.specs.declared.Found.the-variants.{Nowhere, At}
 
 -- ---- "Every answer has: number, place, rounds, worst, interior, depth. Fields not named below are 0."
+-- Document 02, wish 5: worstcell and worstvalue after worst. "Both are 0 on every answer but 0."
 unfoldable pub refusal : ℕ → ℕ → Answer
-refusal num place = record { number = num; place = place; rounds = 0; worst = 0; interior = 0; depth = 0 }
+refusal num place = record { number = num; place = place; rounds = 0; worst = 0; worstcell = 0; worstvalue = pos 0; interior = 0; depth = 0 }
 
-unfoldable pub accepted : ℕ → ℕ → ℕ → ℕ → Answer
-accepted rounds worst interior depth = record { number = 0; place = 0; rounds = rounds; worst = worst; interior = interior; depth = depth }
+unfoldable pub accepted : ℕ → ℕ → ℕ → ℤ → ℕ → ℕ → Answer
+accepted rounds worst cell left interior depth = record {
+  number = 0;
+  place = 0;
+  rounds = rounds;
+  worst = worst;
+  worstcell = cell;
+  worstvalue = left;
+  interior = interior;
+  depth = depth;
+}
 
 unfoldable pub unfinished : ℕ → ℕ → ℕ → ℕ → Answer
-unfinished num rounds interior depth = record { number = num; place = 0; rounds = rounds; worst = 0; interior = interior; depth = depth }
+unfinished num rounds interior depth =
+    record { number = num; place = 0; rounds = rounds; worst = 0; worstcell = 0; worstvalue = pos 0; interior = interior; depth = depth }
 
 -- "A session read or written is answer 0 with the other fields 0."
 unfoldable pub done : Answer

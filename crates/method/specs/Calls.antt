@@ -12,9 +12,9 @@ use Rattle.method.specs.declared.Settings.{Settings}
 use Rattle.method.specs.declared.Order.{Order}
 use Rattle.method.specs.declared.Answer.{Answer}
 use Rattle.method.specs.declared.Found.{Found}
-use Rattle.method.specs.Cast.{Cast, cells, sidesFit, settingsFit, badLabel, badValue, interior, sealed}
+use Rattle.method.specs.Cast.{Cast, cells, sidesFit, settingsFit, badLabel, badValue, interior, worstCell, worstValue, depth, sealed}
 use Rattle.method.specs.Form.{Header, Lines, wrong, header, headerOf, badLine, labelsIn, valuesIn, castIn, written}
-use Rattle.method.specs.Answers.{Check, check, fault, Verdict, passed, refused, verdict, refusal, done, byteNeed, floatNeed, wordNeed, cleared, filled}
+use Rattle.method.specs.Answers.{Check, check, fault, Verdict, passed, refused, verdict, refusal, accepted, unfinished, done, byteNeed, floatNeed, wordNeed, cleared, filled}
 use Rattle.method.specs.Rounds.{End, solved, failed, ending}
 
 -- ---- checks 4 and 5, of a cast
@@ -32,6 +32,10 @@ pub record Asked : Type 0 where
   pub bytes : List ℕ
   pub floats : List Float
   pub words : List ℕ
+
+-- the cast that the rounds are run on, of which an accepted answer speaks: the one handed in
+abbrev pub solvedCast : Asked → Cast
+solvedCast a = a .cast
 
 abbrev pub size : Asked → ℕ
 size a = cells (a .cast .sides)
@@ -77,10 +81,19 @@ handedBack a r ps = record {
   words = cleared (wordNeed (size a)) 0 (a .words);
 }
 
+-- how the rounds ended, as an answer: 0, 8 and 9 have rounds, interior and depth, and 0 says where it is worst
+unfoldable pub answerOf : Cast → End → Answer
+answerOf k (solved rounds most ps) =
+    accepted rounds most (worstCell k ps) (worstValue k ps) (interior (k .sides) (k .labels)) (depth (k .sides) (k .labels))
+answerOf k (failed num rounds) = unfinished num rounds (interior (k .sides) (k .labels)) (depth (k .sides) (k .labels))
+
 -- "Of a solver's answers only 0 writes pressures"
+unfoldable pub pressuresOf : List ℤ → End → List ℤ
+pressuresOf old (solved rounds most ps) = ps
+pressuresOf old (failed num rounds) = old
+
 unfoldable pub ended : Asked → End → Solved
-ended a (solved r ps) = handedBack a r ps
-ended a (failed r) = handedBack a r (a .pressures)
+ended a e = handedBack a (answerOf (a .cast) e) (pressuresOf (a .pressures) e)
 
 unfoldable pub solving : Asked → Solved
 solving a =

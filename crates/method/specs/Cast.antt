@@ -101,6 +101,28 @@ worst k ps =
 unfoldable pub interior : Sides → List ℕ → ℕ
 interior s ls = up (λ c i. cond (judged ls c) (i + 1) i) (cells s) 0
 
+-- The first of the cells 0 to n - 1 at which a test passes.
+unfoldable pub orElse : Found → Found → Found
+orElse Nowhere g = g
+orElse (At c) g = At c
+
+unfoldable pub first : (ℕ → Bool) → ℕ → Found
+first test n = up (λ c f. orElse f (cond (test c) (At c) Nowhere)) n Nowhere
+
+-- Document 02, wish 5: "the first air cell with the greatest absolute residual and that residual with its sign"
+unfoldable pub isWorst : Cast → List ℤ → ℕ → Bool
+isWorst k ps c = judged (k .labels) c && eqb (natAbs (residual (k .sides) (k .labels) (field (k .values)) (field ps) c)) (worst k ps)
+
+unfoldable pub worstCell : Cast → List ℤ → ℕ
+worstCell k ps = elim (first (isWorst k ps) (cells (k .sides))) [ At c ↦ c | Nowhere ↦ 0 ]
+
+unfoldable pub worstValue : Cast → List ℤ → ℤ
+worstValue k ps =
+    elim (first (isWorst k ps) (cells (k .sides))) [
+      | At c ↦ residual (k .sides) (k .labels) (field (k .values)) (field ps) c
+      | Nowhere ↦ pos 0
+    ]
+
 -- ---- "the least number of face steps through air to an opening", where k steps are enough
 unfoldable pub isAt : Found → Bool
 isAt Nowhere = false
@@ -130,14 +152,6 @@ unfoldable pub depth : Sides → List ℕ → ℕ
 depth s ls =
     let known = walk s ls in
     up (λ c d. cond (judged ls c) (max d (stepsOf (getD known c Nowhere))) d) (cells s) 0
-
--- The first of the cells 0 to n - 1 at which a test passes.
-unfoldable pub orElse : Found → Found → Found
-orElse Nowhere g = g
-orElse (At c) g = At c
-
-unfoldable pub first : (ℕ → Bool) → ℕ → Found
-first test n = up (λ c f. orElse f (cond (test c) (At c) Nowhere)) n Nowhere
 
 -- the first air cell with no walk through air to an opening
 unfoldable pub sealed : Sides → List ℕ → Found

@@ -8,4 +8,6 @@ pub mod Rounds
 pub mod Calls
 pub mod Program
 pub mod OldForm
+pub mod OldProgram
+pub mod Many
 pub mod Computing

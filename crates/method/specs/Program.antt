@@ -28,9 +28,10 @@ whole (negsuc n) = text "-" ++ decimal (suc n)
 unfoldable pub answerLines : Answer → List ℕ
 answerLines a =
     line (text "answer=") (decimal (a .number)) ++ line (text "place=") (decimal (a .place)) ++ line (text "rounds=") (decimal (a .rounds))
-    ++ line (text "worst=") (decimal (a .worst)) ++ line (text "interior=") (decimal (a .interior)) ++ line (text "depth=") (decimal (a .depth))
+    ++ line (text "worst=") (decimal (a .worst)) ++ line (text "worstcell=") (decimal (a .worstcell)) ++ line (text "worstvalue=") (whole (a .worstvalue))
+    ++ line (text "interior=") (decimal (a .interior)) ++ line (text "depth=") (decimal (a .depth))
 
--- "six lines ..; on 0, then `cell=` with each cell's pressure in order"
+-- "six lines ..", with wish 5's two after worst; "on 0, then `cell=` with each cell's pressure in order"
 unfoldable pub print : Answer → List ℤ → List ℕ
 print a ps = elim (a .number) [ zero ↦ answerLines a ++ flatMap (λ p. line (text "cell=") (whole p)) ps | suc k ↦ answerLines a ]
 

@@ -12,14 +12,12 @@ use Rattle.laws.specs.Whole.{_+ᶻ_}
 use Rattle.laws.specs.Binary64.{_⊕_, _⊖_, _⊗_, _⊘_, +0, ofℤ}
 use Rattle.method.specs.declared.Sides.{Sides}
 use Rattle.method.specs.declared.Settings.{Settings}
-use Rattle.method.specs.declared.Answer.{Answer}
 use Rattle.method.specs.declared.Tick.{Tick}
 use Rattle.method.specs.declared.Tick.the-variants.{Whole, Refused}
 use Rattle.method.specs.declared.Scalars.{Scalars}
 use Rattle.method.specs.declared.Step.{Step}
 use Rattle.method.specs.declared.Step.the-variants.{Go, Stalled}
-use Rattle.method.specs.Cast.{Cast, cells, isAir, isOpening, around, field, level, worst, interior, depth}
-use Rattle.method.specs.Answers.{accepted, unfinished}
+use Rattle.method.specs.Cast.{Cast, cells, isAir, isOpening, around, field, level, worst}
 use Rattle.method.specs.Levels.{value, inAir}
 use Rattle.method.specs.Cycle.{applied, cycle, zeros}
 
@@ -141,17 +139,17 @@ module _ (s : Sides) (ls : List ℕ) (below : ℕ) (st : State) where
       let p = inAir s ls (λ c. direction (st .rounds) beta (value z c) (value (st .p) c)) in
       moved p new (step (scalars z p new))
 
--- ---- the rounds: how a solve ends, and with which pressures where it is accepted
+-- ---- the rounds: how they end. Accepted after so many rounds, with the worst residual and the pressures; or 8 or 9 after so many
 pub data End : Type 0 where
-  solved : Answer → List ℤ → End
-  failed : Answer → End
+  solved : ℕ → ℕ → List ℤ → End
+  failed : ℕ → ℕ → End
 
-module _ (k : Cast) (t : Settings) (inside deep : ℕ) where
+module _ (k : Cast) (t : Settings) where
   unfoldable pub pass : State → End
-  pass st = solved (accepted (st .rounds) (worst k (rounded k (st .x))) inside deep) (rounded k (st .x))
+  pass st = solved (st .rounds) (worst k (rounded k (st .x))) (rounded k (st .x))
 
   unfoldable pub fail : ℕ → State → End
-  fail num st = failed (unfinished num (st .rounds) inside deep)
+  fail num st = failed num (st .rounds)
 
   -- "A pass is answer 0; a failed test with rounds equal to the limit is 8. Otherwise .." left is how many rounds are left.
   unfoldable pub run : ℕ → State → End
@@ -169,4 +167,4 @@ start k =
     record { rounds = 0; x = none; r = rightSide k; p = none; rho = +0 }
 
 unfoldable pub ending : Cast → Settings → End
-ending k t = run k t (interior (k .sides) (k .labels)) (depth (k .sides) (k .labels)) (t .rounds) (start k)
+ending k t = run k t (t .rounds) (start k)

@@ -28,6 +28,8 @@ pub struct Answer {
     pub place: u32,
     pub rounds: u32,
     pub worst: u32,
+    pub worstcell: u32,
+    pub worstvalue: i32,
     pub interior: u32,
     pub depth: u32,
 }

@@ -22,7 +22,8 @@ use Rattle.method.specs.Calls.{labelFault, valueFault}
 use Rattle.method.specs.OldForm.{OldReading, oldNamed, oldHeader, oldBadLine, oldValueRead, oldLabelsIn, oldValuesIn, oldCastIn, unitFits, oldLineCheck, oldSideCheck, oldBodyCheck, oldRoomCheck, oldContentChecks, oldReaderChecks}
 use Rattle.method.specs.OldForm as form
 use Rattle.theory.proofs.Firsts.{first-cong}
-use Rattle.theory.proofs.Sides.{Fit, fit}
+use Rattle.theory.specs.Sides.{Fit}
+use Rattle.theory.proofs.Sides.{fit}
 use Rattle.theory.proofs.Verdicts.{no-fault, no-fault′}
 use Rattle.theory.proofs.OldRoundTrip.{unit-to}
 use Rattle.checks.specs.Faults.{badLabelAt}

@@ -16,7 +16,8 @@ use Rattle.method.specs.declared.Settings.{Settings}
 use Rattle.method.specs.Cast.{cells}
 use Rattle.method.specs.Answers.{fault, passed, refused, verdict, refusal, done, filled}
 use Rattle.method.specs.OldForm.{OldReading, oldHeader, oldHeaderOf, oldLabelsIn, oldValuesIn, oldLineCheck, oldSideCheck, oldBodyCheck, oldRoomCheck, oldContentChecks, oldReaderChecks, bodyStart, oldNotRead, oldIsRead, oldReading}
-use Rattle.theory.proofs.Sides.{Fit, fit}
+use Rattle.theory.specs.Sides.{Fit}
+use Rattle.theory.proofs.Sides.{fit}
 use Rattle.checks.proofs.RuleLaws.{verdict-agree}
 use Rattle.old_header.specs.declared.OldHeader.{OldHeader}
 use Rattle.old_read.specs.OldBody.{oldValueIn}

@@ -11,7 +11,7 @@ use Rattle.method.specs.declared.Sides.{Sides}
 use Rattle.method.specs.declared.Settings.{Settings}
 use Rattle.method.specs.Answers.{Verdict, passed, refused, verdict, fault, refusal, done}
 use Rattle.method.specs.OldForm.{OldReading, oldHeader, oldReaderChecks, oldReading, unitFits}
-use Rattle.theory.proofs.Sides.{Fit}
+use Rattle.theory.specs.Sides.{Fit}
 use Rattle.checks.specs.Faults.{badLabelAt}
 use Rattle.checks.specs.Rulings.{rulingBy, firstOf}
 use Rattle.checks.specs.declared.Ruling.{Ruling}

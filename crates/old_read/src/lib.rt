@@ -5,7 +5,7 @@ mod values;
 ghost use mathlib.Core.Path.{_≡_};
 ghost use Rattle.method.specs.OldForm.{oldReading};
 ghost use Rattle.old_read.specs.OldReads.{TakesIf, OldReadOf, oldAsked, oldTakenOf};
-use checks::rule::refusal;
+use answers::refusal;
 use grid::place::cell_count;
 use header::line::rest;
 use judge::judge_old;

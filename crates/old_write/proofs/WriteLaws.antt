@@ -24,7 +24,8 @@ use Rattle.method.specs.Cast.{cells, sidesFit, first}
 use Rattle.method.specs.Answers.{fault, passed, refused, verdict, refusal, done, filled}
 use Rattle.method.specs.OldForm.{stored, fits16, expressible, notExpressible, oldHeaderWritten, oldWritten, unitFits, OldWriting, oldBytesOf, oldLengthsFit, oldWriterChecks, oldWriting}
 use Rattle.theory.proofs.Firsts.{none-none, none-more, none-end, hit}
-use Rattle.theory.proofs.Sides.{Fit, fit}
+use Rattle.theory.specs.Sides.{Fit}
+use Rattle.theory.proofs.Sides.{fit}
 use Rattle.theory.proofs.Verdicts.{no-fault}
 use Rattle.theory.proofs.OldRoundTrip.{unit-from}
 use Rattle.checks.specs.Faults.{cellRuling}

@@ -3,7 +3,7 @@ ghost use mathlib.Core.Path.{_≡_};
 ghost use Prim.Native.Nat.{_<_};
 ghost use lib.ListN.{replicate};
 ghost use Rattle.method.specs.OldForm.{oldLengthsFit};
-ghost use Rattle.theory.proofs.Sides.{Fit};
+ghost use Rattle.theory.specs.Sides.{Fit};
 ghost use Rattle.old_write.specs.OldWrites.{OldRuledOf, oldOffered, oldSliceRuling};
 use crate::units::first_inexpressible;
 use checks::Ruling;

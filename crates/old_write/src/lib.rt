@@ -3,8 +3,8 @@ mod judge;
 mod units;
 
 ghost use Rattle.old_write.specs.OldWrites.{OldWriteOf};
+use answers::refusal;
 use checks::Ruling;
-use checks::rule::refusal;
 use judge::judge_old_cast;
 use method::Answer;
 use method::Sides;

@@ -18,12 +18,13 @@ use Rattle.method.specs.declared.Found.{Found}
 use Rattle.method.specs.declared.Found.the-variants.{Nowhere, At}
 use Rattle.method.specs.Cast.{between, cells, sidesFit}
 use Rattle.method.specs.Form.{lastDigit, spelled, decimal, orderWord, line, headerWritten, digits, isDigit, isNumber, valueOf, Line, bad, good, after, closed, numberLine, orderLine, lines, Lines, wrong, right, more, readLines, headerOf, header, wrongLine, badLine}
+use Rattle.method.specs.OldForm.{numberTo}
 use Rattle.method.specs.Answers.{Verdict, refused, verdict}
 use Rattle.method.specs.Calls.{lineCheck, sideCheck, bodyCheck}
 use Rattle.method.specs.Program.{programRoom, programChecks, printed, program}
-use Rattle.theory.proofs.Lines.{after-is}
+use Rattle.theory.proofs.Lines.{after-is, line-to}
 use Rattle.checks.proofs.RuleLaws.{fails-at, passes-on, fault-no, fault-yes}
-use Rattle.prints.specs.Prints.{longestHeader, inputRoom}
+use Rattle.prints.specs.Prints.{longestHeader, bufferFor, inputRoom, largeRoom}
 use Rattle.prints.proofs.Rules.{bare, printed-refused, fault-too-many, fault-none}
 
 -- what is read, where more bytes follow
@@ -31,11 +32,11 @@ abbrev on : List ℕ → Option (List ℕ) → Option (List ℕ)
 on tail none = none
 on tail (some cs) = some (cs ++ tail)
 
-abbrev lineOn : List ℕ → Line → Line
+abbrev pub lineOn : List ℕ → Line → Line
 lineOn tail bad = bad
 lineOn tail (good v rest) = good v (rest ++ tail)
 
-abbrev linesOn : List ℕ → Lines → Lines
+abbrev pub linesOn : List ℕ → Lines → Lines
 linesOn tail (wrong k) = wrong k
 linesOn tail (right vs rest) = right vs (rest ++ tail)
 
@@ -78,17 +79,17 @@ long-number : (ds : List ℕ) → 7 < length ds → isNumber ds ≡ false
 unfolding isNumber between
 long-number ds h = let j : 1 ≤ length ds = omega arith in rw (lt-leb (length ds) 7 h, le-leb 1 (length ds) j)
 
--- ---- the line of a number
-held : List ℕ → Line
-held cs = closed (digits cs) (after (text "\n") (drop (length (digits cs)) cs))
+-- ---- a number after a key, up to a byte x that ends it
+held : ℕ → List ℕ → Line
+held x cs = closed (digits cs) (after (x ∷ []) (drop (length (digits cs)) cs))
 
-number-none : (key bs : List ℕ) → after key bs ≡ none → numberLine key bs ≡ bad
-unfolding numberLine
-number-none key bs e = rw (numberLine, e)
+number-none : (x : ℕ) (key bs : List ℕ) → after key bs ≡ none → numberTo (x ∷ []) key bs ≡ bad
+unfolding numberTo
+number-none x key bs e = rw (numberTo, e)
 
-number-some : (key bs cs : List ℕ) → after key bs ≡ some cs → numberLine key bs ≡ held cs
-unfolding numberLine held
-number-some key bs cs e = rw (numberLine, e)
+number-some : (x : ℕ) (key bs cs : List ℕ) → after key bs ≡ some cs → numberTo (x ∷ []) key bs ≡ held x cs
+unfolding numberTo held
+number-some x key bs cs e = rw (numberTo, e)
 
 closed-not : (ds : List ℕ) (o : Option (List ℕ)) → isNumber ds ≡ false → closed ds o ≡ bad
 unfolding closed
@@ -104,23 +105,23 @@ closed-on ds tail (some rest) = go (isNumber ds)
     go true = refl
     go false = refl
 
-held-on : (cs tail : List ℕ) → 8 ≤ length cs → held (cs ++ tail) ≡ lineOn tail (held cs)
+held-on : (x : ℕ) (cs tail : List ℕ) → 8 ≤ length cs → held x (cs ++ tail) ≡ lineOn tail (held x cs)
 unfolding held
-held-on cs tail h = ⊎-elim whole ended (le-or-lt (length cs) (length (digits cs)))
+held-on x cs tail h = ⊎-elim whole ended (le-or-lt (length cs) (length (digits cs)))
   where
     -- all of it is digits, and more of them than a number has
-    whole : length cs ≤ length (digits cs) → held (cs ++ tail) ≡ lineOn tail (held cs)
+    whole : length cs ≤ length (digits cs) → held x (cs ++ tail) ≡ lineOn tail (held x cs)
     whole l =
         closed-not (digits (cs ++ tail)) _ (long-number (digits (cs ++ tail)) (omega (arith, digits-no-fewer cs tail)))
         ∙ sym (ap (lineOn tail) (closed-not (digits cs) _ (long-number (digits cs) (omega arith))))
 
-    ended : length (digits cs) < length cs → held (cs ++ tail) ≡ lineOn tail (held cs)
+    ended : length (digits cs) < length cs → held x (cs ++ tail) ≡ lineOn tail (held x cs)
     ended l =
         let k : length (digits cs) ≤ length cs = omega arith in
-        ap (λ ds. closed ds (after (text "\n") (drop (length ds) (cs ++ tail)))) (digits-on cs tail l)
-        ∙ ap (λ x. closed (digits cs) (after (text "\n") x)) (drop-append-le (length (digits cs)) cs tail k)
-        ∙ ap (closed (digits cs)) (after-on (text "\n") (drop (length (digits cs)) cs) tail (omega (arith, length-drop (length (digits cs)) cs)))
-        ∙ closed-on (digits cs) tail (after (text "\n") (drop (length (digits cs)) cs))
+        ap (λ ds. closed ds (after (x ∷ []) (drop (length ds) (cs ++ tail)))) (digits-on cs tail l)
+        ∙ ap (λ y. closed (digits cs) (after (x ∷ []) y)) (drop-append-le (length (digits cs)) cs tail k)
+        ∙ ap (closed (digits cs)) (after-on (x ∷ []) (drop (length (digits cs)) cs) tail (omega (arith, length-drop (length (digits cs)) cs)))
+        ∙ closed-on (digits cs) tail (after (x ∷ []) (drop (length (digits cs)) cs))
 
 -- what is left after a line
 abbrev leftOf : Line → List ℕ
@@ -138,42 +139,48 @@ closed-left ds x v rest e = go (isNumber ds) e
     go true q = ap leftOf q
     go false q = absurd (not-good refl q)
 
-held-left : (cs : List ℕ) (v : ℕ) (rest : List ℕ) → held cs ≡ good v rest → length cs ≤ length rest + 8
+held-left : (x : ℕ) (cs : List ℕ) (v : ℕ) (rest : List ℕ) → held x cs ≡ good v rest → length cs ≤ length rest + 8
 unfolding held closed
-held-left cs v rest e = go (after (text "\n") (drop (length (digits cs)) cs)) refl
+held-left x cs v rest e = go (after (x ∷ []) (drop (length (digits cs)) cs)) refl
   where
-    go : (o : Option (List ℕ)) → after (text "\n") (drop (length (digits cs)) cs) ≡ o → length cs ≤ length rest + 8
+    go : (o : Option (List ℕ)) → after (x ∷ []) (drop (length (digits cs)) cs) ≡ o → length cs ≤ length rest + 8
     go none q = absurd (not-good (ap (closed (digits cs)) q) e)
-    go (some x) q = ⊎-elim
-        (λ l. absurd (not-good (closed-not (digits cs) (after (text "\n") (drop (length (digits cs)) cs)) (long-number (digits cs) l)) e))
-        (λ l. omega (arith, after-length (text "\n") (drop (length (digits cs)) cs) x q, length-drop (length (digits cs)) cs, ap length (closed-left (digits cs) x v rest (sym (ap (closed (digits cs)) q) ∙ e))))
+    go (some y) q = ⊎-elim
+        (λ l. absurd (not-good (closed-not (digits cs) (after (x ∷ []) (drop (length (digits cs)) cs)) (long-number (digits cs) l)) e))
+        (λ l. omega (arith, after-length (x ∷ []) (drop (length (digits cs)) cs) y q, length-drop (length (digits cs)) cs, ap length (closed-left (digits cs) y v rest (sym (ap (closed (digits cs)) q) ∙ e))))
         (le-or-lt 8 (length (digits cs)))
 
 -- ---- a reader of a line that w bytes decide
-record Front (l : List ℕ → Line) (w : ℕ) : Type 0 where
-  on : (bs tail : List ℕ) → w ≤ length bs → l (bs ++ tail) ≡ lineOn tail (l bs)
-  left : (bs : List ℕ) (v : ℕ) (rest : List ℕ) → l bs ≡ good v rest → length bs ≤ length rest + w
+pub record Front (l : List ℕ → Line) (w : ℕ) : Type 0 where
+  pub on : (bs tail : List ℕ) → w ≤ length bs → l (bs ++ tail) ≡ lineOn tail (l bs)
+  pub left : (bs : List ℕ) (v : ℕ) (rest : List ℕ) → l bs ≡ good v rest → length bs ≤ length rest + w
 
-number-front : (key : List ℕ) → Front (numberLine key) (length key + 8)
-number-front key = record { on = on′; left = left′ }
+pub to-front : (x : ℕ) (key : List ℕ) → Front (numberTo (x ∷ []) key) (length key + 8)
+to-front x key = record { on = on′; left = left′ }
   where
-    on′ : (bs tail : List ℕ) → length key + 8 ≤ length bs → numberLine key (bs ++ tail) ≡ lineOn tail (numberLine key bs)
+    on′ : (bs tail : List ℕ) → length key + 8 ≤ length bs → numberTo (x ∷ []) key (bs ++ tail) ≡ lineOn tail (numberTo (x ∷ []) key bs)
     on′ bs tail h = go (after key bs) refl
       where
         same : after key (bs ++ tail) ≡ on tail (after key bs)
         same = after-on key bs tail (omega arith)
 
-        go : (o : Option (List ℕ)) → after key bs ≡ o → numberLine key (bs ++ tail) ≡ lineOn tail (numberLine key bs)
-        go none e = number-none key (bs ++ tail) (same ∙ ap (on tail) e) ∙ sym (ap (lineOn tail) (number-none key bs e))
+        go : (o : Option (List ℕ)) → after key bs ≡ o → numberTo (x ∷ []) key (bs ++ tail) ≡ lineOn tail (numberTo (x ∷ []) key bs)
+        go none e = number-none x key (bs ++ tail) (same ∙ ap (on tail) e) ∙ sym (ap (lineOn tail) (number-none x key bs e))
         go (some cs) e =
-            number-some key (bs ++ tail) (cs ++ tail) (same ∙ ap (on tail) e) ∙ held-on cs tail (omega (arith, after-length key bs cs e)) ∙ sym (ap (lineOn tail) (number-some key bs cs e))
+            number-some x key (bs ++ tail) (cs ++ tail) (same ∙ ap (on tail) e) ∙ held-on x cs tail (omega (arith, after-length key bs cs e)) ∙ sym (ap (lineOn tail) (number-some x key bs cs e))
 
-    left′ : (bs : List ℕ) (v : ℕ) (rest : List ℕ) → numberLine key bs ≡ good v rest → length bs ≤ length rest + (length key + 8)
+    left′ : (bs : List ℕ) (v : ℕ) (rest : List ℕ) → numberTo (x ∷ []) key bs ≡ good v rest → length bs ≤ length rest + (length key + 8)
     left′ bs v rest e = go (after key bs) refl
       where
         go : (o : Option (List ℕ)) → after key bs ≡ o → length bs ≤ length rest + (length key + 8)
-        go none q = absurd (not-good (number-none key bs q) e)
-        go (some cs) q = omega (arith, after-length key bs cs q, held-left cs v rest (sym (number-some key bs cs q) ∙ e))
+        go none q = absurd (not-good (number-none x key bs q) e)
+        go (some cs) q = omega (arith, after-length key bs cs q, held-left x cs v rest (sym (number-some x key bs cs q) ∙ e))
+
+number-front : (key : List ℕ) → Front (numberLine key) (length key + 8)
+number-front key = let f = to-front 10 key in record {
+  on = λ bs tail h. line-to key (bs ++ tail) ∙ f .on bs tail h ∙ sym (ap (lineOn tail) (line-to key bs));
+  left = λ bs v rest e. f .left bs v rest (sym (line-to key bs) ∙ e);
+}
 
 -- ---- the line of the order
 abbrev ordered : Option (List ℕ) → Option (List ℕ) → Line
@@ -212,7 +219,7 @@ order-front = record { on = on′; left = left′ }
         go none none p q r = absurd (not-good refl r)
 
 -- ---- lines one after the other
-data Fronts : List (List ℕ → Line) → ℕ → Type 0 where
+pub data Fronts : List (List ℕ → Line) → ℕ → Type 0 where
   end : Fronts [] 0
   next : {l : List ℕ → Line} {ls : List (List ℕ → Line)} {w n : ℕ} → Front l w → Fronts ls n → Fronts (l ∷ ls) (w + n)
 
@@ -234,7 +241,7 @@ unfolding more
 more-on v tail (wrong k) = refl
 more-on v tail (right vs rest) = refl
 
-lines-on : (k n : ℕ) (ls : List (List ℕ → Line)) → Fronts ls n → (bs tail : List ℕ) → n ≤ length bs → readLines k ls (bs ++ tail) ≡ linesOn tail (readLines k ls bs)
+pub lines-on : (k n : ℕ) (ls : List (List ℕ → Line)) → Fronts ls n → (bs tail : List ℕ) → n ≤ length bs → readLines k ls (bs ++ tail) ≡ linesOn tail (readLines k ls bs)
 unfolding readLines
 lines-on k n [] end bs tail h = refl
 lines-on k n (l ∷ ls) (next {w = w} {n = m} f fs) bs tail h = go (l bs) refl (λ rest g. lines-on (suc k) m ls fs rest tail g)
@@ -248,7 +255,7 @@ lines-on k n (l ∷ ls) (next {w = w} {n = m} f fs) bs tail h = go (l bs) refl (
         ∙ sym (ap (linesOn tail) (read-good k l ls bs v rest e))
 
 -- at least n bytes are left after the lines
-abbrev Left : ℕ → Lines → Type 0
+abbrev pub Left : ℕ → Lines → Type 0
 Left n (wrong k) = Unit {0}
 Left n (right vs rest) = n ≤ length rest
 
@@ -257,7 +264,7 @@ unfolding more
 more-left n v (wrong k) h = tt
 more-left n v (right vs rest) h = h
 
-lines-left : (k n : ℕ) (ls : List (List ℕ → Line)) → Fronts ls n → (bs : List ℕ) (m : ℕ) → m + n ≤ length bs → Left m (readLines k ls bs)
+pub lines-left : (k n : ℕ) (ls : List (List ℕ → Line)) → Fronts ls n → (bs : List ℕ) (m : ℕ) → m + n ≤ length bs → Left m (readLines k ls bs)
 unfolding readLines
 lines-left k n [] end bs m h = omega arith
 lines-left k n (l ∷ ls) (next {w = w} {n = o} f fs) bs m h = go (l bs) refl (λ rest g. lines-left (suc k) o ls fs rest m g)
@@ -277,7 +284,7 @@ unfolding wrongLine
 wrong-on tail (wrong k) = refl
 wrong-on tail (right vs rest) = refl
 
-not-nowhere : {f : Found} {p : ℕ} → f ≡ At p → f ≡ Nowhere → ⊥
+pub not-nowhere : {f : Found} {p : ℕ} → f ≡ At p → f ≡ Nowhere → ⊥
 not-nowhere p q = let z : _≡_ {A = ℕ} 0 1 = cc in omega arith
 
 body-left : (m : ℕ) (ls : Lines) → Left m ls → wrongLine ls ≡ Nowhere → m ≤ length (headerOf ls .body)
@@ -342,17 +349,32 @@ header-room : length longestHeader ≡ 94
 unfolding longestHeader headerWritten line orderWord decimal spelled lastDigit
 header-room = refl
 
+pub buffer-for : (room : ℕ) → bufferFor room ≡ 5 * room + 95
+unfolding bufferFor
+buffer-for room = omega (arith, header-room)
+
 pub input-room : inputRoom ≡ 5 * programRoom + 95
 unfolding inputRoom
-input-room = omega (arith, header-room)
+input-room = buffer-for programRoom
+
+pub front-is-enough-for : (room : ℕ) (bs : List ℕ) → printed room (take (bufferFor room) bs) ≡ printed room bs
+front-is-enough-for room bs = ⊎-elim
+    (λ l. sym (front-decides room (take (bufferFor room) bs) (drop (bufferFor room) bs) (omega (arith, buffer-for room, length-take-le (bufferFor room) bs l))) ∙ ap (printed room) (take-append-drop (bufferFor room) bs))
+    (λ l. ap (printed room) (take-all (bufferFor room) bs (omega arith)))
+    (le-or-lt (bufferFor room) (length bs))
 
 pub front-is-enough : (bs : List ℕ) → program (take inputRoom bs) ≡ program bs
-unfolding program
-front-is-enough bs = ⊎-elim
-    (λ l. sym (front-decides programRoom (take inputRoom bs) (drop inputRoom bs) (omega (arith, input-room, length-take-le inputRoom bs l))) ∙ ap (printed programRoom) (take-append-drop inputRoom bs))
-    (λ l. ap (printed programRoom) (take-all inputRoom bs (omega arith)))
-    (le-or-lt inputRoom (length bs))
+unfolding program inputRoom
+front-is-enough bs = front-is-enough-for programRoom bs
 
 -- an input is known by its front: inputs with the same front have the same print
+pub front-prints-for : (room : ℕ) (bs input : List ℕ) → take (bufferFor room) bs ≡ input → printed room input ≡ printed room bs
+front-prints-for room bs input e = ap (printed room) (sym e) ∙ front-is-enough-for room bs
+
 pub front-prints : (bs input : List ℕ) → take inputRoom bs ≡ input → program input ≡ program bs
 front-prints bs input e = ap program (sym e) ∙ front-is-enough bs
+
+-- ---- the greatest casts: sides in range never have more cells than the large program has room for
+pub large-room : largeRoom ≡ 32768
+unfolding largeRoom cells
+large-room = refl

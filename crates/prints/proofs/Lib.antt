@@ -2,5 +2,6 @@
 pub mod Rooms
 pub mod Rules
 pub mod Fronts
+pub mod OldFronts
 pub mod Told
 pub mod Bounds

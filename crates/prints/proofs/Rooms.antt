@@ -14,7 +14,7 @@ use Rattle.method.specs.Cast.{Cast, interior, depth}
 use Rattle.method.specs.Form.{line}
 use Rattle.method.specs.Answers.{Check, Verdict, passed, refused, verdict, fault, refusal, unfinished}
 use Rattle.method.specs.Rounds.{pass, fail, ending}
-use Rattle.method.specs.Calls.{Asked, Solved, lengthsFit, checksBefore7, checksFrom7, untouched, handedBack, ended, solving}
+use Rattle.method.specs.Calls.{Asked, Solved, lengthsFit, checksBefore7, checksFrom7, untouched, handedBack, answerOf, pressuresOf, ended, solving}
 use Rattle.method.specs.Program.{whole, answerLines, print, shown}
 use Rattle.theory.proofs.Verdicts.{Numbered, Judged, fine, faulty, judge, not-passed}
 use Rattle.theory.proofs.Ends.{Ended, passing, failing, ending-is}
@@ -75,10 +75,10 @@ module _ (k : Cast) (t : Settings) (ps qs : List ℤ) (bs cs : List ℕ) (fs gs 
   same-from = verdict-agree checksFrom7 one other (refl, tt)
 
   same-ended : shown (ended one (ending k t)) ≡ shown (ended other (ending k t))
-  unfolding shown ended handedBack pass fail unfinished
+  unfolding shown ended answerOf pressuresOf handedBack pass fail unfinished
   same-ended = go (ending-is k t)
     where
-      go : Ended k t (interior (k .sides) (k .labels)) (depth (k .sides) (k .labels)) (ending k t) → shown (ended one (ending k t)) ≡ shown (ended other (ending k t))
+      go : Ended k t (ending k t) → shown (ended one (ending k t)) ≡ shown (ended other (ending k t))
       go (passing st e p) = rw e
       go (failing num st l h e) = rw e (print-other (unfinished num (st .rounds) (interior (k .sides) (k .labels)) (depth (k .sides) (k .labels))) ps qs (omega arith))
 

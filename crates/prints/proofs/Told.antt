@@ -43,29 +43,6 @@ line-told : (key : List ℕ) (n m : ℕ) (x y : List ℕ) → line key (decimal 
 line-told key n m x y e =
     number-told n m x y (cancel key (decimal n ++ (10 ∷ x)) (decimal m ++ (10 ∷ y)) (sym (line-is key (decimal n) x) ∙ e ∙ line-is key (decimal m) y))
 
--- ---- the six lines
-answer-eq : (a b : Answer) → a .number ≡ b .number → a .place ≡ b .place → a .rounds ≡ b .rounds → a .worst ≡ b .worst → a .interior ≡ b .interior → a .depth ≡ b .depth → a ≡ b
-answer-eq a b n p r w i d =
-    ap₂ (λ x y. record { number = x; place = y; rounds = a .rounds; worst = a .worst; interior = a .interior; depth = a .depth }) n p
-    ∙ ap₂ (λ x y. record { number = b .number; place = b .place; rounds = x; worst = y; interior = a .interior; depth = a .depth }) r w
-    ∙ ap₂ (λ x y. record { number = b .number; place = b .place; rounds = b .rounds; worst = b .worst; interior = x; depth = y }) i d
-
-six : (a : Answer) (x : List ℕ) → answerLines a ++ x
-    ≡ line (text "answer=") (decimal (a .number)) ++ (line (text "place=") (decimal (a .place)) ++ (line (text "rounds=") (decimal (a .rounds))
-    ++ (line (text "worst=") (decimal (a .worst)) ++ (line (text "interior=") (decimal (a .interior)) ++ (line (text "depth=") (decimal (a .depth)) ++ x)))))
-unfolding answerLines
-six a x = simp append-assoc
-
-answer-told : (a b : Answer) (x y : List ℕ) → answerLines a ++ x ≡ answerLines b ++ y → Told Answer a b x y
-answer-told a b x y e =
-    let t1 = line-told (text "answer=") (a .number) (b .number) _ _ (sym (six a x) ∙ e ∙ six b y) in
-    let t2 = line-told (text "place=") (a .place) (b .place) _ _ (t1 .rest) in
-    let t3 = line-told (text "rounds=") (a .rounds) (b .rounds) _ _ (t2 .rest) in
-    let t4 = line-told (text "worst=") (a .worst) (b .worst) _ _ (t3 .rest) in
-    let t5 = line-told (text "interior=") (a .interior) (b .interior) _ _ (t4 .rest) in
-    let t6 = line-told (text "depth=") (a .depth) (b .depth) x y (t5 .rest) in
-    record { same = answer-eq a b (t1 .same) (t2 .same) (t3 .same) (t4 .same) (t5 .same) (t6 .same); rest = t6 .rest }
-
 -- ---- the line of a pressure
 -- a minus is no digit, and a number has one
 not-minus : (n : ℕ) (x y : List ℕ) → decimal n ++ (10 ∷ x) ≡ 45 ∷ y → ⊥
@@ -85,6 +62,41 @@ whole-told (negsuc n) (negsuc m) x y e =
     let t = number-told (suc n) (suc m) x y (ap (drop 1) e) in
     let s : n ≡ m = omega (arith, t .same) in
     record { same = ap negsuc s; rest = t .rest }
+
+-- ---- the eight lines
+value-told : (key : List ℕ) (p q : ℤ) (x y : List ℕ) → line key (whole p) ++ x ≡ line key (whole q) ++ y → Told ℤ p q x y
+value-told key p q x y e =
+    whole-told p q x y (cancel key (whole p ++ (10 ∷ x)) (whole q ++ (10 ∷ y)) (sym (line-is key (whole p) x) ∙ e ∙ line-is key (whole q) y))
+
+answer-eq : (a b : Answer) → a .number ≡ b .number → a .place ≡ b .place → a .rounds ≡ b .rounds → a .worst ≡ b .worst → a .worstcell ≡ b .worstcell
+    → a .worstvalue ≡ b .worstvalue → a .interior ≡ b .interior → a .depth ≡ b .depth → a ≡ b
+answer-eq a b n p r w c v i d =
+    ap₂ (λ x y. record { number = x; place = y; rounds = a .rounds; worst = a .worst; worstcell = a .worstcell; worstvalue = a .worstvalue; interior = a .interior; depth = a .depth }) n p
+    ∙ ap₂ (λ x y. record { number = b .number; place = b .place; rounds = x; worst = y; worstcell = a .worstcell; worstvalue = a .worstvalue; interior = a .interior; depth = a .depth }) r w
+    ∙ ap₂ (λ x y. record { number = b .number; place = b .place; rounds = b .rounds; worst = b .worst; worstcell = x; worstvalue = y; interior = a .interior; depth = a .depth }) c v
+    ∙ ap₂ (λ x y. record { number = b .number; place = b .place; rounds = b .rounds; worst = b .worst; worstcell = b .worstcell; worstvalue = b .worstvalue; interior = x; depth = y }) i d
+
+eight : (a : Answer) (x : List ℕ) → answerLines a ++ x
+    ≡ line (text "answer=") (decimal (a .number)) ++ (line (text "place=") (decimal (a .place)) ++ (line (text "rounds=") (decimal (a .rounds))
+    ++ (line (text "worst=") (decimal (a .worst)) ++ (line (text "worstcell=") (decimal (a .worstcell)) ++ (line (text "worstvalue=") (whole (a .worstvalue))
+    ++ (line (text "interior=") (decimal (a .interior)) ++ (line (text "depth=") (decimal (a .depth)) ++ x)))))))
+unfolding answerLines
+eight a x = simp append-assoc
+
+answer-told : (a b : Answer) (x y : List ℕ) → answerLines a ++ x ≡ answerLines b ++ y → Told Answer a b x y
+answer-told a b x y e =
+    let t1 = line-told (text "answer=") (a .number) (b .number) _ _ (sym (eight a x) ∙ e ∙ eight b y) in
+    let t2 = line-told (text "place=") (a .place) (b .place) _ _ (t1 .rest) in
+    let t3 = line-told (text "rounds=") (a .rounds) (b .rounds) _ _ (t2 .rest) in
+    let t4 = line-told (text "worst=") (a .worst) (b .worst) _ _ (t3 .rest) in
+    let t5 = line-told (text "worstcell=") (a .worstcell) (b .worstcell) _ _ (t4 .rest) in
+    let t6 = value-told (text "worstvalue=") (a .worstvalue) (b .worstvalue) _ _ (t5 .rest) in
+    let t7 = line-told (text "interior=") (a .interior) (b .interior) _ _ (t6 .rest) in
+    let t8 = line-told (text "depth=") (a .depth) (b .depth) x y (t7 .rest) in
+    record {
+      same = answer-eq a b (t1 .same) (t2 .same) (t3 .same) (t4 .same) (t5 .same) (t6 .same) (t7 .same) (t8 .same);
+      rest = t8 .rest;
+    }
 
 cells-told : (ps qs : List ℤ) → flatMap (λ p. line (text "cell=") (whole p)) ps ≡ flatMap (λ p. line (text "cell=") (whole p)) qs → ps ≡ qs
 unfolding flatMap line

@@ -2,7 +2,8 @@
 use mathlib.Core.Path.{_≡_, sym, ap, _∙_}
 use mathlib.Core.Bool.{Bool, true, false}
 use mathlib.Core.List.{List}
-use Prim.Native.Nat.{ℕ, _+_, _*_, _≤_, _<_}
+use Prim.Native.Nat.{ℕ, _≤_, _<_}
+use native.Mathlib.Omega.{arith}
 use borrow.Author.Needs.{needs}
 use borrow.Author.Tests.{lt-ltb, le-ltb}
 use lib.Dec.{ltb}
@@ -14,12 +15,14 @@ use Rattle.method.specs.declared.Order.the-variants.{Big, Little}
 use Rattle.method.specs.declared.Answer.{Answer}
 use Rattle.method.specs.Cast.{cells, sidesFit}
 use Rattle.method.specs.Form.{orderOf}
-use Rattle.method.specs.Answers.{byteNeed, floatNeed, wordNeed, refusal}
-use Rattle.theory.proofs.Sides.{Fit, fit}
-use Rattle.session.specs.Reads.{ReadOf}
-use Rattle.session.specs.Writes.{WriteOf}
-use Rattle.session.specs.declared.Session.{Session}
-use Rattle.session.specs.declared.Written.{Written}
+use Rattle.method.specs.Answers.{refusal}
+use Rattle.theory.specs.Sides.{Fit}
+use Rattle.theory.proofs.Sides.{fit}
+use Rattle.grid.proofs.Steps.{cells-most}
+use Rattle.session_read.specs.Reads.{ReadOf}
+use Rattle.session_write.specs.Writes.{WriteOf}
+use Rattle.session_read.specs.declared.Session.{Session}
+use Rattle.session_write.specs.declared.Written.{Written}
 use Rattle.quetzalcup.specs.declared.Read.{Read}
 use Rattle.quetzalcup.specs.Face.{needBy, orderNumber, unordered, writtenBy, ReadBack, WrittenBy}
 
@@ -28,17 +31,12 @@ module _ (s : Sides) (w : Bool) (e : w ≡ sidesFit s) where
   pub sides-known : w ≡ true → Fit s
   sides-known t = fit s (sym e ∙ t)
 
-  pub byte-fit : (n : ℕ) → w ≡ true → n ≡ cells s → 2 * n + 16 ≡ needBy byteNeed s
-  unfolding needBy byteNeed
-  byte-fit n t c = rw (← e, t, c)
+  pub few-cells : (n : ℕ) → w ≡ true → n ≡ cells s → n ≤ 32768
+  few-cells n t c = omega (arith, c, cells-most s (sides-known t))
 
-  pub float-fit : (n : ℕ) → w ≡ true → n ≡ cells s → 8 * n + 64 ≡ needBy floatNeed s
-  unfolding needBy floatNeed
-  float-fit n t c = rw (← e, t, c)
-
-  pub word-fit : (n : ℕ) → w ≡ true → n ≡ cells s → 2 * n ≡ needBy wordNeed s
-  unfolding needBy wordNeed
-  word-fit n t c = rw (← e, t, c)
+  pub need-fit : (need : ℕ → ℕ) (n m : ℕ) → m ≡ need n → n ≡ cells s → w ≡ true → m ≡ needBy need s
+  unfolding needBy
+  need-fit need n m q c t = q ∙ ap need c ∙ rw (← e, t)
 
   pub no-need : (need : ℕ → ℕ) → w ≡ false → 0 ≡ needBy need s
   unfolding needBy
@@ -52,7 +50,7 @@ module _ (s : Sides) (w : Bool) (e : w ≡ sidesFit s) where
   unfolding unordered
   unordered-unfit a t f = rw (← e, t, f)
 
-pub ruleset sides = (needs, sides-known, byte-fit, float-fit, word-fit, no-need, unordered-fit, unordered-unfit)
+pub ruleset sides = (needs, sides-known, few-cells, need-fit, no-need, unordered-fit, unordered-unfit)
 
 -- ---- orders and numbers
 pub number-big : (o : Order) → o ≡ Big → 0 ≡ orderNumber o

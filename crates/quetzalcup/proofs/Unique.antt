@@ -5,7 +5,7 @@ use Prim.Native.Nat.{ℕ}
 use lib.IntN.{ℤ}
 use Rattle.method.specs.declared.Sides.{Sides}
 use Rattle.method.specs.declared.Settings.{Settings}
-use Rattle.session.specs.declared.Written.{Written}
+use Rattle.session_write.specs.declared.Written.{Written}
 use Rattle.quetzalcup.specs.declared.Read.{Read}
 use Rattle.quetzalcup.specs.Face.{ReadBack, WrittenBy}
 

@@ -14,8 +14,8 @@ use Rattle.method.specs.Cast.{cells, sidesFit}
 use Rattle.method.specs.Form.{orderOf}
 use Rattle.method.specs.Answers.{refusal}
 use Rattle.method.specs.Calls.{reading, writing}
-use Rattle.session.specs.Writes.{offered}
-use Rattle.session.specs.declared.Written.{Written}
+use Rattle.session_write.specs.Writes.{offered}
+use Rattle.session_write.specs.declared.Written.{Written}
 use Rattle.method.specs.Calls as calls
 use Rattle.quetzalcup.specs.declared.Read.{Read}
 

@@ -6,8 +6,8 @@ ghost use Rattle.many.specs.ManySolve.{askedMany, SolveManyOf};
 ghost use Rattle.old_read.specs.OldReads.{OldReadOf};
 ghost use Rattle.old_write.specs.OldWrites.{OldWriteOf};
 ghost use Rattle.quetzalcup.specs.Face.{needBy, orderNumber, ReadBack, WrittenBy, unordered};
+use answers::refusal;
 use checks::cast::sides_fit;
-use checks::rule::refusal;
 use grid::place::cell_count;
 use method::Answer;
 use method::Order;
@@ -15,7 +15,10 @@ use method::Settings;
 use method::Sides;
 use old_read::OldSession;
 use old_write::OldWritten;
-use session::Written;
+use rooms::byte_need;
+use rooms::float_need;
+use rooms::word_need;
+use session_write::Written;
 
 // What is to be solved or written, beside the cells.
 #[repr(C)]
@@ -109,7 +112,7 @@ pub extern "C" fn quetz_solve_many(
 pub extern "C" fn quetz_read(bytes: &[u8], values: &mut [i32]) -> Read
     ensures { λ r. ⌜ ReadBack (now (bytes .entry)) (now (values .entry)) r (now (values .exit)) ⌝ }
 {
-    let read = session::read(bytes, values);
+    let read = session_read::read(bytes, values);
     let answer = read.answer;
     let sides = read.sides;
     let order = read.order;
@@ -140,7 +143,7 @@ pub extern "C" fn quetz_write(
         let answer = unordered_answer(sides);
         return Written { answer, count: 0 };
     }
-    session::write(
+    session_write::write(
         sides,
         header::order_of(order),
         settings,
@@ -178,7 +181,7 @@ pub extern "C" fn quetz_byte_need(sides: Sides) -> usize
     ensures { λ r. ⌜ r ≡ needBy byteNeed sides ⌝ }
 {
     if sides_fit(sides) {
-        2 * cell_count(sides) + 16
+        byte_need(cell_count(sides))
     } else {
         0
     }
@@ -189,7 +192,7 @@ pub extern "C" fn quetz_float_need(sides: Sides) -> usize
     ensures { λ r. ⌜ r ≡ needBy floatNeed sides ⌝ }
 {
     if sides_fit(sides) {
-        8 * cell_count(sides) + 64
+        float_need(cell_count(sides))
     } else {
         0
     }
@@ -200,7 +203,7 @@ pub extern "C" fn quetz_word_need(sides: Sides) -> usize
     ensures { λ r. ⌜ r ≡ needBy wordNeed sides ⌝ }
 {
     if sides_fit(sides) {
-        2 * cell_count(sides)
+        word_need(cell_count(sides))
     } else {
         0
     }

@@ -10,7 +10,7 @@ use Rattle.method.proofs.Cases.{example, case-program}
 use Rattle.show.specs.Shows.{PutShort}
 
 abbrev nine : List ℕ
-nine = text "answer=0\nplace=0\nrounds=1\nworst=0\ninterior=1\ndepth=1\ncell=10\ncell=15\ncell=20\n"
+nine = text "answer=0\nplace=0\nrounds=1\nworst=0\nworstcell=1\nworstvalue=0\ninterior=1\ndepth=1\ncell=10\ncell=15\ncell=20\n"
 
 module _ (most : ℕ) (old new : List ℕ) (r : ℕ) (z : PutShort most (printed programRoom example) old 0 new r) where
   pub nine-lines : new ≡ sets old 0 nine

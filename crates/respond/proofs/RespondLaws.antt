@@ -22,7 +22,8 @@ use Rattle.method.specs.Answers.{passed, verdict, refusal, done, filled, byteNe
 use Rattle.method.specs.Calls.{Asked, Reading, lengthsFit, lineCheck, sideCheck, bodyCheck, roomCheck, contentChecks, readerChecks, notRead, isRead, reading, solving}
 use Rattle.method.specs.Program.{programChecks, print, shown, printed}
 use Rattle.method.specs.Program as program
-use Rattle.theory.proofs.Sides.{Fit, fit}
+use Rattle.theory.specs.Sides.{Fit}
+use Rattle.theory.proofs.Sides.{fit}
 use Rattle.theory.proofs.Verdicts.{Judged, fine, faulty, judge, AllPass, all-pass, no-fault, no-fault′}
 use Rattle.theory.proofs.RoundTrip.{read-0}
 use Rattle.header.specs.Lines.{HeaderOf, headerIn}
@@ -30,10 +31,10 @@ use Rattle.header.specs.declared.Header.{Header as Head}
 use Rattle.header.specs.declared.HeaderRead.{HeaderRead}
 use Rattle.header.specs.declared.HeaderRead.the-variants.{Wrong, Named}
 use Rattle.show.specs.Shows.{printRoom, PutShort}
-use Rattle.session.specs.Reads.{ReadOf}
-use Rattle.session.specs.Reads as reads
-use Rattle.session.specs.declared.Session.{Session}
-use Rattle.session.proofs.ReadLaws.{reading-refused, reading-passed}
+use Rattle.session_read.specs.Reads.{ReadOf}
+use Rattle.session_read.specs.Reads as reads
+use Rattle.session_read.specs.declared.Session.{Session}
+use Rattle.session_read.proofs.ReadLaws.{reading-refused, reading-passed}
 use Rattle.rounds.specs.Rounds.{castOf}
 use Rattle.solve.specs.Solve.{asked, SolveOf}
 use Rattle.prints.specs.Prints.{crowded}
@@ -88,14 +89,14 @@ crowded-put bs limit t a ps w u j e q f l p =
 pub not-crowded : (bs : List ℕ) (limit : ℕ) (t : Bool) → t ≡ crowded limit bs → t ≡ false → crowded limit bs ≡ false
 not-crowded bs limit t e q = sym e ∙ q
 
-pub no-room : (limit m : ℕ) → printRoom limit ≤ m → 108 ≤ m
+pub no-room : (limit m : ℕ) → printRoom limit ≤ m → 160 ≤ m
 no-room limit m h = omega arith
 
 pub ruleset responses = (needs, crowded-put, not-crowded, no-room)
 
 -- ---- a session that is read
 -- the lengths that the solver asks for
-lengths-true : (k : Cast) (t : Settings) (ps : List ℤ) (bytes : List ℕ) (floats : List Float) (words : List ℕ) → length (k .labels) ≡ cells (k .sides)
+pub lengths-true : (k : Cast) (t : Settings) (ps : List ℤ) (bytes : List ℕ) (floats : List Float) (words : List ℕ) → length (k .labels) ≡ cells (k .sides)
     → length (k .values) ≡ cells (k .sides) → length ps ≡ cells (k .sides) → byteNeed (cells (k .sides)) ≤ length bytes → floatNeed (cells (k .sides)) ≤ length floats
     → wordNeed (cells (k .sides)) ≤ length words
     → lengthsFit (record { cast = k; settings = t; pressures = ps; bytes = bytes; floats = floats; words = words }) ≡ true
@@ -103,15 +104,15 @@ unfolding lengthsFit
 lengths-true k t ps bytes floats words a b c d e f =
     rw (eq-eqb (length (k .labels)) (cells (k .sides)) a, eq-eqb (length (k .values)) (cells (k .sides)) b, eq-eqb (length ps) (cells (k .sides)) c, le-leb (byteNeed (cells (k .sides))) (length bytes) d, le-leb (floatNeed (cells (k .sides))) (length floats) e, le-leb (wordNeed (cells (k .sides))) (length words) f)
 
-byte-more : (n m k : ℕ) → n ≤ m → byteNeed m ≤ k → byteNeed n ≤ k
+pub byte-more : (n m k : ℕ) → n ≤ m → byteNeed m ≤ k → byteNeed n ≤ k
 unfolding byteNeed
 byte-more n m k h l = omega arith
 
-float-more : (n m k : ℕ) → n ≤ m → floatNeed m ≤ k → floatNeed n ≤ k
+pub float-more : (n m k : ℕ) → n ≤ m → floatNeed m ≤ k → floatNeed n ≤ k
 unfolding floatNeed
 float-more n m k h l = omega arith
 
-word-more : (n m k : ℕ) → n ≤ m → wordNeed m ≤ k → wordNeed n ≤ k
+pub word-more : (n m k : ℕ) → n ≤ m → wordNeed m ≤ k → wordNeed n ≤ k
 unfolding wordNeed
 word-more n m k h l = omega arith
 
@@ -119,7 +120,7 @@ values-long : (bs : List ℕ) → length (valuesIn (header bs)) ≡ cells (heade
 unfolding valuesIn
 values-long bs = length-tab (cells (header bs .sides)) (λ x. valueRead (header bs .order) (take 4 (drop (cells (header bs .sides) + 4 * x) (header bs .body))))
 
-cast-eq : (s g : Sides) (ls ms : List ℕ) (vs ws : List ℤ) → s ≡ g → ls ≡ ms → vs ≡ ws → castOf s ls vs ≡ castOf g ms ws
+pub cast-eq : (s g : Sides) (ls ms : List ℕ) (vs ws : List ℤ) → s ≡ g → ls ≡ ms → vs ≡ ws → castOf s ls vs ≡ castOf g ms ws
 cast-eq s g ls ms vs ws a b c = ap₂ (λ x y. castOf x y vs) a b ∙ ap (castOf g ms) c
 
 module _ (limit : ℕ) (bs : List ℕ) (old new : List ℤ) (s : Session) (z : ReadOf bs old s new) (l : limit ≤ length old) (e : crowded limit bs ≡ false) where

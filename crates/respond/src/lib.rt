@@ -11,8 +11,8 @@ ghost use Rattle.show.specs.Shows.{printRoom, PutShort};
 ghost use Rattle.solve.specs.Solve.{asked};
 ghost use Rattle.prints.specs.Prints.{crowded};
 ghost use Rattle.respond.specs.Responds.{Roomy, IsRead};
+use answers::refusal;
 use checks::cast::sides_fit;
-use checks::rule::refusal;
 use grid::place::cell_count;
 use header::HeaderRead;
 use header::read_header;
@@ -44,7 +44,7 @@ fn too_many(bytes: &[u8], limit: usize) -> bool
 }
 
 // A cast is solved, and the answer shown.
-fn solved(
+pub fn solved(
     sides: Sides,
     labels: &[u8],
     values: &[i32],
@@ -89,7 +89,7 @@ fn solve_read(
     ensures { λ r. ⌜ PutShort (printRoom limit) (printed limit (now (input .entry))) (now (output .entry)) 0 (now (output .exit)) r ⌝ }
 {
     let n = cell_count(sides);
-    let labels = session::labels(input, values.len());
+    let labels = session_read::labels(input, values.len());
     solved(
         sides,
         labels,
@@ -118,7 +118,7 @@ fn answered(
     requires { ⌜ crowded limit (now input) ≡ false ⌝ }
     ensures { λ r. ⌜ PutShort (printRoom limit) (printed limit (now (input .entry))) (now (output .entry)) 0 (now (output .exit)) r ⌝ }
 {
-    let read = session::read(input, values);
+    let read = session_read::read(input, values);
     let answer = read.answer;
     if answer.number != 0 {
         return show(answer, &pressures[..0], output);

@@ -13,12 +13,13 @@ use lib.Ieee.{Float}
 use Rattle.laws.specs.Binary64.{_⊕_, _⊖_, _⊗_, +0}
 use Rattle.method.specs.declared.Sides.{Sides}
 use Rattle.method.specs.declared.Settings.{Settings}
-use Rattle.method.specs.declared.Answer.{Answer}
 use Rattle.method.specs.declared.Scalars.{Scalars}
 use Rattle.method.specs.declared.Step.{Step}
 use Rattle.method.specs.declared.Step.the-variants.{Go, Stalled}
 use Rattle.method.specs.Cast.{Cast, cells, worst}
-use Rattle.method.specs.Answers.{accepted, unfinished}
+use Rattle.answers.specs.declared.Ended.{Ended}
+use Rattle.answers.specs.declared.Ended.the-variants.{Accepted, Unfinished}
+use Rattle.answers.specs.Ends.{endOf}
 use Rattle.method.specs.Levels.{value, inAir}
 use Rattle.method.specs.Cycle.{applied, zeros}
 use Rattle.method.specs.Rounds.{State, Turn, stalled, turned, End, solved, failed, passes, rounded, step, scalars, moved, round, rightSide, pass, fail, run, start}
@@ -29,7 +30,7 @@ use Rattle.trial.specs.declared.Tested.{Tested}
 use Rattle.trial.specs.declared.Tested.the-variants.{Passed, Failed}
 use Rattle.trial.specs.Trial.{tested}
 use Rattle.fields.specs.Fields.{Held, x-of, p-of, z-of, r-of, t-of}
-use Rattle.rounds.specs.Rounds.{castOf, endedBy, Calm, stateOf, zNew, rhoNew, betaNew, pNew, scalarsNew, below, Scaled, Advanced, Ready, endOf, RunOf, EndOf}
+use Rattle.rounds.specs.Rounds.{castOf, Calm, stateOf, zNew, rhoNew, betaNew, pNew, scalarsNew, below, Scaled, Advanced, Ready, RunOf, EndOf}
 use Rattle.rounds.proofs.Turns.{turns, held, air-same, air-value}
 
 -- ---- a round, piece by piece
@@ -88,30 +89,30 @@ failed-is true v h = absurd (passed-not h)
 failed-is false v h = refl
 
 -- ---- what is left to do
-module _ (g : Sides) (ls : List ℕ) (vs : List ℤ) (t : Settings) (i d : ℕ) where
+module _ (g : Sides) (ls : List ℕ) (vs : List ℤ) (t : Settings) where
   abbrev k : Cast
   k = castOf g ls vs
 
   abbrev from : ℕ → State → End
-  from n st = run (castOf g ls vs) t i d n st
+  from n st = run (castOf g ls vs) t n st
 
-  run-passes : (n : ℕ) (st : State) → passes k t (st .x) ≡ true → from n st ≡ pass k t i d st
+  run-passes : (n : ℕ) (st : State) → passes k t (st .x) ≡ true → from n st ≡ pass k t st
   unfolding run
-  run-passes zero st h = ap (λ b. elim b [ true ↦ pass k t i d st | false ↦ fail k t i d 8 st ]) h
+  run-passes zero st h = ap (λ b. elim b [ true ↦ pass k t st | false ↦ fail k t 8 st ]) h
   run-passes (suc n) st h =
-      ap (λ b. elim b [ true ↦ pass k t i d st | false ↦ elim (round g ls (t .levels - 1) st) [ stalled ↦ fail k t i d 9 st | turned next ↦ from n next ] ]) h
+      ap (λ b. elim b [ true ↦ pass k t st | false ↦ elim (round g ls (t .levels - 1) st) [ stalled ↦ fail k t 9 st | turned next ↦ from n next ] ]) h
 
-  run-ends : (st : State) → passes k t (st .x) ≡ false → from zero st ≡ fail k t i d 8 st
+  run-ends : (st : State) → passes k t (st .x) ≡ false → from zero st ≡ fail k t 8 st
   unfolding run
-  run-ends st h = ap (λ b. elim b [ true ↦ pass k t i d st | false ↦ fail k t i d 8 st ]) h
+  run-ends st h = ap (λ b. elim b [ true ↦ pass k t st | false ↦ fail k t 8 st ]) h
 
   -- after a test that fails, a round
   after : ℕ → State → Turn → End
-  after n st u = elim u [ stalled ↦ fail k t i d 9 st | turned next ↦ from n next ]
+  after n st u = elim u [ stalled ↦ fail k t 9 st | turned next ↦ from n next ]
 
   run-more : (n : ℕ) (st : State) (u : Turn) → passes k t (st .x) ≡ false → round g ls (t .levels - 1) st ≡ u → from (suc n) st ≡ after n st u
   unfolding run after
-  run-more n st u h q = ap₂ (λ b v. elim b [ true ↦ pass k t i d st | false ↦ elim v [ stalled ↦ fail k t i d 9 st | turned next ↦ from n next ] ]) h q
+  run-more n st u h q = ap₂ (λ b v. elim b [ true ↦ pass k t st | false ↦ elim v [ stalled ↦ fail k t 9 st | turned next ↦ from n next ] ]) h q
 
   -- the test, as the code has it
   module _ (v : Tested) (m : List Float) (e : v ≡ tested k t (x-of (cells g) m)) where
@@ -132,14 +133,14 @@ module _ (g : Sides) (ls : List ℕ) (vs : List ℤ) (t : Settings) (i d : ℕ) 
     left-none = let none : t .rounds - 0 ≡ t .rounds = omega arith in record { is = ap (λ n. from n (stateOf (cells g) 0 +0 e)) none }
 
     module _ (done : ℕ) (rho : Float) (m : List Float) (l : Left done rho m) (v : Tested) (tv : v ≡ tested k t (x-of (cells g) m)) where
-      pub left-pass : (w : ℕ) (r : Answer) → v ≡ Passed w → r ≡ endedBy 0 done w i d → RunOf g ls vs t i d e r m
-      unfolding pass endOf accepted
+      pub left-pass : (w : ℕ) (r : Ended) → v ≡ Passed w → r ≡ Accepted done w → RunOf g ls vs t e r m
+      unfolding pass endOf
       left-pass w r q a =
           let y = pass-here v m tv w q in
           record { is = sym (l .is) ∙ run-passes (t .rounds - done) (stateOf (cells g) done rho m) (y .0) ∙ rw (y .1, a) refl }
 
-      pub left-end : (r : Answer) → t .rounds ≤ done → v ≡ Failed → r ≡ endedBy 8 done 0 i d → RunOf g ls vs t i d e r m
-      unfolding fail endOf unfinished
+      pub left-end : (r : Ended) → t .rounds ≤ done → v ≡ Failed → r ≡ Unfinished 8 done → RunOf g ls vs t e r m
+      unfolding fail endOf
       left-end r h q a =
           let none : t .rounds - done ≡ 0 = omega arith in
           record { is = sym (l .is) ∙ ap (λ n. from n (stateOf (cells g) done rho m)) none ∙ run-ends (stateOf (cells g) done rho m) (fail-here v m tv q) ∙ rw a refl }
@@ -158,8 +159,8 @@ module _ (g : Sides) (ls : List ℕ) (vs : List ℤ) (t : Settings) (i d : ℕ) 
             sym (l .is) ∙ ap (λ n. from n (stateOf (cells g) done rho m)) some-left
             ∙ run-more (t .rounds - (done + 1)) (stateOf (cells g) done rho m) u (fail-here v m tv q) (ap (λ n. round g ls n (stateOf (cells g) done rho m)) (sym level-count) ∙ y)
 
-        pub left-stall : (a : Float) (r : Answer) → w ≡ Stalled a → r ≡ endedBy 9 done 0 i d → RunOf g ls vs t i d e r s
-        unfolding after fail endOf unfinished
+        pub left-stall : (a : Float) (r : Ended) → w ≡ Stalled a → r ≡ Unfinished 9 done → RunOf g ls vs t e r s
+        unfolding after fail endOf
         left-stall a r y b = record { is = left-after stalled (round-stalls g ls (below plan) done rho m s o c w sw a y) ∙ rw b refl }
 
         pub left-more : (alpha : Float) (x : List Float) → w ≡ Go alpha → Advanced g ls alpha s x → Left (done + 1) (o .rho) x
@@ -218,26 +219,25 @@ module _ (g : Sides) (ls : List ℕ) (vs : List ℤ) (e m : List Float) (h : Hel
       let r-new : r-of (cells g) m ≡ rightSide (castOf g ls vs) = ap (take (cells g)) after-z ∙ take-at (rightSide (castOf g ls vs)) (drop (4 * cells g) e) (cells g) r-long in
       record { x = rw x-none quiet-zeros; p = rw p-none quiet-zeros; r = rw r-new (quiet-right (castOf g ls vs)) }
 
-  pub end-is : (t : Settings) (i d : ℕ) (a : Answer) (s : List Float) → RunOf g ls vs t i d m a s → EndOf g ls vs t i d a s
-  end-is t i d a s y = record { is = ap (run (castOf g ls vs) t i d (t .rounds)) (sym start-is) ∙ y .is }
+  pub end-is : (t : Settings) (a : Ended) (s : List Float) → RunOf g ls vs t m a s → EndOf g ls vs t a s
+  end-is t a s y = record { is = ap (run (castOf g ls vs) t (t .rounds)) (sym start-is) ∙ y .is }
 
 pub ruleset budget = (turns, start-calm, left-none, left-pass, left-end, left-stall, left-more, held-ready, same-ready, end-is)
 
--- ---- THE PROMISE IS ONE RESULT: the answer, and the pressures where it is 0
-by-number : Answer → List ℤ → ℕ → End
-by-number a ps n = elim n [ zero ↦ solved a ps | suc k ↦ failed a ]
-
-not-both : {a b : Answer} {ps : List ℤ} → solved a ps ≡ failed b → ⊥
+-- ---- THE PROMISE IS ONE RESULT: how the rounds ended, and the pressures where they are accepted
+not-both : {n w m o : ℕ} {ps : List ℤ} → solved n w ps ≡ failed m o → ⊥
 not-both h = let z : _≡_ {A = ℕ} 0 1 = cc in omega arith
 
-one-by : (a b : Answer) (ps qs : List ℤ) (m n : ℕ) → by-number a ps m ≡ by-number b qs n → (a ≡ b) × (m ≡ 0 → ps ≡ qs)
-unfolding by-number
-one-by a b ps qs zero zero h = (cc, λ z. cc)
-one-by a b ps qs zero (suc n) h = absurd (not-both h)
-one-by a b ps qs (suc m) zero h = absurd (not-both (sym h))
-one-by a b ps qs (suc m) (suc n) h = (cc, λ z. absurd (omega arith))
+other-end : {n w m o : ℕ} → Unfinished m o ≡ Accepted n w → ⊥
+other-end h = let z : _≡_ {A = ℕ} 0 1 = cc in omega arith
 
-pub end-one : (g : Sides) (ls : List ℕ) (vs : List ℤ) (t : Settings) (i d : ℕ) (a b : Answer) (s u : List Float) → EndOf g ls vs t i d a s → EndOf g ls vs t i d b u
-    → (a ≡ b) × (a .number ≡ 0 → rounded (castOf g ls vs) (x-of (cells g) s) ≡ rounded (castOf g ls vs) (x-of (cells g) u))
-unfolding endOf by-number
-end-one g ls vs t i d a b s u p q = one-by a b _ _ (a .number) (b .number) (sym (p .is) ∙ q .is)
+one-by : (a b : Ended) (ps qs : List ℤ) → endOf a ps ≡ endOf b qs → (a ≡ b) × ((n w : ℕ) → a ≡ Accepted n w → ps ≡ qs)
+unfolding endOf
+one-by (Accepted n w) (Accepted m v) ps qs h = (cc, λ i j e. cc)
+one-by (Accepted n w) (Unfinished m o) ps qs h = absurd (not-both h)
+one-by (Unfinished m o) (Accepted n w) ps qs h = absurd (not-both (sym h))
+one-by (Unfinished m o) (Unfinished n v) ps qs h = (cc, λ i j e. absurd (other-end e))
+
+pub end-one : (g : Sides) (ls : List ℕ) (vs : List ℤ) (t : Settings) (a b : Ended) (s u : List Float) → EndOf g ls vs t a s → EndOf g ls vs t b u
+    → (a ≡ b) × ((n w : ℕ) → a ≡ Accepted n w → rounded (castOf g ls vs) (x-of (cells g) s) ≡ rounded (castOf g ls vs) (x-of (cells g) u))
+end-one g ls vs t a b s u p q = one-by a b _ _ (sym (p .is) ∙ q .is)

@@ -23,7 +23,7 @@ use Rattle.method.specs.Cycle.{applied, cycle}
 use Rattle.method.specs.Rounds.{dot, betaOf, direction, scalars}
 use Rattle.theory.specs.Levels.{sidesAt, labelsAt}
 use Rattle.theory.specs.Quiet.{Quiet}
-use Rattle.theory.proofs.Sides.{Fit}
+use Rattle.theory.specs.Sides.{Fit}
 use Rattle.levels.specs.Levels.{base}
 use Rattle.smooth.specs.Fields.{u-of, b-of}
 use Rattle.smooth.specs.Entries.{AllRead}

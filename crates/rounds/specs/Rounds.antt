@@ -8,16 +8,17 @@ use lib.Ieee.{Float}
 use Rattle.laws.specs.Binary64.{_⊕_, _⊖_, _⊗_, +0}
 use Rattle.method.specs.declared.Sides.{Sides}
 use Rattle.method.specs.declared.Settings.{Settings}
-use Rattle.method.specs.declared.Answer.{Answer}
 use Rattle.method.specs.declared.Scalars.{Scalars}
 use Rattle.method.specs.Cast.{Cast, cells}
 use Rattle.method.specs.Levels.{value, inAir}
 use Rattle.method.specs.Cycle.{applied, cycle}
-use Rattle.method.specs.Rounds.{State, End, solved, failed, dot, betaOf, direction, scalars, rounded, run, start}
+use Rattle.method.specs.Rounds.{State, dot, betaOf, direction, scalars, rounded, run, start}
 use Rattle.theory.specs.Quiet.{Quiet}
-use Rattle.theory.proofs.Sides.{Fit}
+use Rattle.answers.specs.declared.Ended.{Ended}
+use Rattle.answers.specs.Ends.{endOf}
+use Rattle.theory.specs.Sides.{Fit}
 use Rattle.levels.specs.Levels.{base}
-use Rattle.levels.specs.AllLists.{baseLabels}
+use Rattle.bands.specs.AllLists.{baseLabels}
 use Rattle.cycle.specs.Rooms as Rooms
 use Rattle.rounds.specs.declared.Plan.{Plan}
 use Rattle.fields.specs.Fields.{x-of, p-of, z-of, r-of, t-of}
@@ -131,18 +132,10 @@ pub record Ready (g : Sides) (ls : List ℕ) (vs : List ℤ) (t : Settings) (pla
   pub tolerance : t .tolerance ≤ 1000000
   pub limit : t .rounds ≤ 1000
 
--- an answer from the rounds: method's `accepted` is number 0, its `unfinished` another with worst 0
-abbrev pub endedBy : ℕ → ℕ → ℕ → ℕ → ℕ → Answer
-endedBy num rounds worst interior depth = record { number = num; place = 0; rounds = rounds; worst = worst; interior = interior; depth = depth }
-
--- how a solve ends, as its answer and the pressures that it would write
-unfoldable pub endOf : Answer → List ℤ → End
-endOf a ps = elim (a .number) [ zero ↦ solved a ps | suc k ↦ failed a ]
-
--- the rounds end as document 01's, from the state that room e holds, with answer a and the x of room s
-pub record RunOf (g : Sides) (ls : List ℕ) (vs : List ℤ) (t : Settings) (interior depth : ℕ) (e : List Float) (a : Answer) (s : List Float) : Type 0 where
-  pub is : run (castOf g ls vs) t interior depth (t .rounds) (stateOf (cells g) 0 +0 e) ≡ endOf a (rounded (castOf g ls vs) (x-of (cells g) s))
+-- the rounds end as document 01's, from the state that room e holds, as a says and with the x of room s
+pub record RunOf (g : Sides) (ls : List ℕ) (vs : List ℤ) (t : Settings) (e : List Float) (a : Ended) (s : List Float) : Type 0 where
+  pub is : run (castOf g ls vs) t (t .rounds) (stateOf (cells g) 0 +0 e) ≡ endOf a (rounded (castOf g ls vs) (x-of (cells g) s))
 
 -- THE PROMISE: the same from the start
-pub record EndOf (g : Sides) (ls : List ℕ) (vs : List ℤ) (t : Settings) (interior depth : ℕ) (a : Answer) (s : List Float) : Type 0 where
-  pub is : run (castOf g ls vs) t interior depth (t .rounds) (start (castOf g ls vs)) ≡ endOf a (rounded (castOf g ls vs) (x-of (cells g) s))
+pub record EndOf (g : Sides) (ls : List ℕ) (vs : List ℤ) (t : Settings) (a : Ended) (s : List Float) : Type 0 where
+  pub is : run (castOf g ls vs) t (t .rounds) (start (castOf g ls vs)) ≡ endOf a (rounded (castOf g ls vs) (x-of (cells g) s))

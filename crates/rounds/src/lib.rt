@@ -11,10 +11,10 @@ ghost use Rattle.method.specs.Rounds.{finite};
 ghost use Rattle.theory.specs.Quiet.{Quiet};
 ghost use Rattle.fields.specs.Fields.{Held, x-of, t-of};
 ghost use Rattle.trial.specs.Trial.{tested};
-ghost use Rattle.rounds.specs.Rounds.{castOf, endedBy, Calm, Advanced, Ready, RunOf, EndOf};
-use levels::lists::Lists;
+ghost use Rattle.rounds.specs.Rounds.{castOf, Calm, Advanced, Ready, RunOf, EndOf};
+use answers::Ended;
+use bands::lists::Lists;
 use levels::sides::Levels;
-use method::Answer;
 use method::Settings;
 use method::Sides;
 use method::Step;
@@ -26,20 +26,6 @@ pub struct Plan {
     pub levels: Levels,
     pub lists: Lists,
     pub count: usize,
-}
-
-// An answer from the rounds: 0, 8 or 9.
-fn ended(number: u32, rounds: u32, worst: u32, interior: u32, depth: u32) -> Answer
-    ensures { λ r. ⌜ r ≡ endedBy number rounds worst interior depth ⌝ }
-{
-    Answer {
-        number,
-        place: 0,
-        rounds,
-        worst,
-        interior,
-        depth,
-    }
 }
 
 // The test of x as it stands in the room: on its rounded ticks, not on r.
@@ -81,26 +67,24 @@ fn rounds(
     values: &[i32],
     settings: Settings,
     g: Sides,
-    interior: u32,
-    depth: u32,
-) -> Answer
+) -> Ended
     requires { ⌜ Ready g (now labels) (now values) settings plan (now bytes) (now words) (length (now room)) ⌝ }
     requires { ⌜ Calm g (now labels) (now room) ⌝ }
-    ensures { λ r. ⌜ RunOf g (now (labels .entry)) (now (values .entry)) settings interior depth (now (room .entry)) r (now (room .exit)) ⌝ }
+    ensures { λ r. ⌜ RunOf g (now (labels .entry)) (now (values .entry)) settings (now (room .entry)) r (now (room .exit)) ⌝ }
 {
     let mut done = 0;
     let mut rho = 0.0;
     while done < settings.rounds {
         match test_x(&room[..], labels, values, g, settings) {
             trial::Tested::Passed(worst) => {
-                return ended(0, done, worst, interior, depth);
+                return Ended::Accepted(done, worst);
             }
             trial::Tested::Failed => {}
         }
         let q = scalars_of(room, bytes, words, plan, labels, g, done, rho);
         match step_of(q) {
             Step::Stalled(_) => {
-                return ended(9, done, 0, interior, depth);
+                return Ended::Unfinished(9, done);
             }
             Step::Go(alpha) => {
                 move_on(room, labels, g, alpha);
@@ -110,8 +94,8 @@ fn rounds(
         done += 1;
     }
     match test_x(&room[..], labels, values, g, settings) {
-        trial::Tested::Passed(worst) => ended(0, done, worst, interior, depth),
-        trial::Tested::Failed => ended(8, done, 0, interior, depth),
+        trial::Tested::Passed(worst) => Ended::Accepted(done, worst),
+        trial::Tested::Failed => Ended::Unfinished(8, done),
     }
 }
 
@@ -125,23 +109,10 @@ pub fn run(
     values: &[i32],
     settings: Settings,
     g: Sides,
-    interior: u32,
-    depth: u32,
-) -> Answer
+) -> Ended
     requires { ⌜ Ready g (now labels) (now values) settings plan (now bytes) (now words) (length (now room)) ⌝ }
-    ensures { λ r. ⌜ EndOf g (now (labels .entry)) (now (values .entry)) settings interior depth r (now (room .exit)) ⌝ }
+    ensures { λ r. ⌜ EndOf g (now (labels .entry)) (now (values .entry)) settings r (now (room .exit)) ⌝ }
 {
     fields::start(room, labels, values, g);
-    rounds(
-        room,
-        bytes,
-        words,
-        plan,
-        labels,
-        values,
-        settings,
-        g,
-        interior,
-        depth,
-    )
+    rounds(room, bytes, words, plan, labels, values, settings, g)
 }

@@ -1,4 +1,4 @@
--- Laws of the print: the six lines, the line of a pressure, all of them. Assumes nothing.
+-- Laws of the print: a line of a whole number, the lines of an answer, those of all pressures. Assumes nothing.
 use mathlib.Core.Path.{_≡_, refl, sym, ap, _∙_}
 use mathlib.Core.Bool.{true, false}
 use mathlib.Core.List.{List, [], _∷_, _++_, append-assoc, flatMap}
@@ -11,7 +11,7 @@ use lib.ListN.{length, getD, take}
 use lib.Seq.{take-suc, take-all}
 use lib.IntN.{ℤ, pos, negsuc, natAbs, _-ℤ_}
 use lib.Signed.{ltZ, nonNeg, mag}
-use mir.Syntax.{w64}
+use mir.Syntax.{w32, w64}
 use mir.Val.{Fits, SFits, toZ, ofZ}
 use mir.Facts.{toZ-ofZ}
 use Rattle.laws.specs.Text.{text}
@@ -25,45 +25,7 @@ use Rattle.puts.proofs.DecimalLaws.{most-digits}
 use Rattle.writes.specs.Lengths.{threeLines}
 use Rattle.writes.proofs.PartLaws.{flat-append, flat-one}
 use Rattle.writes.proofs.LengthLaws.{line-length, three-length}
-use Rattle.show.specs.Shows.{cellLine, printRoom, PutShort}
-
--- ---- the six lines
-abbrev firstThree : Answer → List ℕ
-firstThree a = threeLines (text "answer=") (a .number) (text "place=") (a .place) (text "rounds=") (a .rounds)
-
-abbrev lastThree : Answer → List ℕ
-lastThree a = threeLines (text "worst=") (a .worst) (text "interior=") (a .interior) (text "depth=") (a .depth)
-
-answer-parts : (a : Answer) → answerLines a ≡ firstThree a ++ lastThree a
-unfolding answerLines threeLines
-answer-parts a = simp append-assoc
-
-ten-digits : (n : ℕ) → n < 2 ^ 32 → length (decimal n) ≤ 10
-ten-digits n h = most-digits 9 n (omega arith)
-
--- three lines with short keys
-module _ (a : List ℕ) (x : ℕ) (b : List ℕ) (y : ℕ) (c : List ℕ) (z : ℕ) (k : length a + length b + length c ≤ 21) (p : x < 2 ^ 32) (q : y < 2 ^ 32) (r : z < 2 ^ 32) where
-  short-three : length (threeLines a x b y c z) ≤ 54
-  short-three = omega (arith, three-length a x b y c z, ten-digits x p, ten-digits y q, ten-digits z r)
-
-  pub first-room : (w : List ℕ) (i : ℕ) → i + 108 ≤ length w → i + length (threeLines a x b y c z) ≤ length w
-  first-room w i h = omega (arith, short-three)
-
-pub last-room : (w u : List ℕ) (i j : ℕ) (a : List ℕ) (x : ℕ) (b : List ℕ) (y : ℕ) (c : List ℕ) (z : ℕ) (a′ : List ℕ) (x′ : ℕ) (b′ : List ℕ) (y′ : ℕ) (c′ : List ℕ) (z′ : ℕ)
-    → Put (threeLines a x b y c z) w i u j → length a + length b + length c ≤ 21 → x < 2 ^ 32 → y < 2 ^ 32 → z < 2 ^ 32 → i + 108 ≤ length w
-    → length a′ + length b′ + length c′ ≤ 21 → x′ < 2 ^ 32 → y′ < 2 ^ 32 → z′ < 2 ^ 32
-    → j + length (threeLines a′ x′ b′ y′ c′ z′) ≤ length u
-last-room w u i j a x b y c z a′ x′ b′ y′ c′ z′ g k p q r h k′ p′ q′ r′ =
-    omega (arith, short-three a x b y c z k p q r, short-three a′ x′ b′ y′ c′ z′ k′ p′ q′ r′, g .next, put-length g)
-
-module _ (a : Answer) (x : a .number < 2 ^ 32) (y : a .place < 2 ^ 32) (z : a .rounds < 2 ^ 32) (x′ : a .worst < 2 ^ 32) (y′ : a .interior < 2 ^ 32) (z′ : a .depth < 2 ^ 32) where
-  pub answer-put : (w u d : List ℕ) (i j m : ℕ) → Put (firstThree a) w i u j → Put (lastThree a) u j d m → PutShort 108 (answerLines a) w i d m
-  answer-put w u d i j m p q = record {
-    puts = rw (answer-parts a) (put-then p q);
-    short = omega (arith, p .next, q .next, short-three (text "answer=") (a .number) (text "place=") (a .place) (text "rounds=") (a .rounds) (omega arith) x y z, short-three (text "worst=") (a .worst) (text "interior=") (a .interior) (text "depth=") (a .depth) (omega arith) x′ y′ z′);
-  }
-
-pub ruleset answers = (needs, first-room, last-room, answer-put)
+use Rattle.show.specs.Shows.{cellLine, worstLines, castLines, answerRoom, printRoom, PutShort}
 
 -- ---- the size of a pressure
 module _ (p : ℤ) (f : SFits w64 p) where
@@ -85,43 +47,131 @@ module _ (p : ℤ) (f : SFits w64 p) where
 
 pub ruleset sizes = (needs, turned-fits, turned-more, size-below, size-above)
 
--- ---- the line of a pressure
+-- ---- a line of a key and a whole number
 size-most : (p : ℤ) → mag p < 2 ^ 63 → natAbs p ≤ 2 ^ 63
 size-most (pos n) h = omega arith
 size-most (negsuc n) h = omega arith
 
-module _ (p : ℤ) (f : SFits w64 p) (n : ℕ) (e : n ≡ natAbs (toZ w64 (ofZ w64 p))) (w : List ℕ) (i : ℕ) where
+minus-line : (key : List ℕ) (n : ℕ) → key ++ line (text "-") (decimal (suc n)) ≡ line key (whole (negsuc n))
+unfolding whole line
+minus-line key n = simp append-assoc
+
+module _ (p : ℤ) (f : SFits w64 p) (n : ℕ) (e : n ≡ natAbs (toZ w64 (ofZ w64 p))) (key w : List ℕ) (i : ℕ) where
   size-is : n ≡ natAbs p
   size-is = e ∙ ap natAbs (same p f)
 
   few : length (decimal n) ≤ 19
   few = most-digits 18 n (omega (arith, size-is, size-most p (f .sfits)))
 
-  pub cell-room : (key : List ℕ) → length key ≤ 6 → i + 26 ≤ length w → i + length (line key (decimal n)) ≤ length w
-  cell-room key k r = omega (arith, line-length key n, few)
+  pub whole-room : i + (length key + 21) ≤ length w → i + length (line key (decimal n)) ≤ length w
+  whole-room r = omega (arith, line-length key n, few)
+
+  pub minus-room : (u : List ℕ) (j : ℕ) → i + (length key + 21) ≤ length w → Put key w i u j → j + length (line (text "-") (decimal n)) ≤ length u
+  minus-room u j r q = omega (arith, line-length (text "-") n, few, q .next, put-length q)
 
   module _ (u : List ℕ) (j : ℕ) where
-    pub minus-put : ltZ (toZ w64 (ofZ w64 p)) (pos 0) ≡ true → Put (line (text "cell=-") (decimal n)) w i u j → PutShort 26 (cellLine p) w i u j
-    unfolding whole line
-    minus-put h q =
+    pub minus-put : (d : List ℕ) (m : ℕ) → ltZ (toZ w64 (ofZ w64 p)) (pos 0) ≡ true → Put key w i u j → Put (line (text "-") (decimal n)) u j d m
+        → PutShort (length key + 21) (line key (whole p)) w i d m
+    minus-put d m h q r =
         let b = below p f h in
-        let m : n ≡ suc (mag p) = size-is ∙ ap natAbs b in
+        let s : n ≡ suc (mag p) = size-is ∙ ap natAbs b in
+        let t : key ++ line (text "-") (decimal n) ≡ line key (whole p) = ap (λ v. key ++ line (text "-") (decimal v)) s ∙ minus-line key (mag p) ∙ ap (λ v. line key (whole v)) (sym b) in
         record {
-          puts = rw (b, ← m) q;
-          short = omega (arith, q .next, line-length (text "cell=-") n, few);
+          puts = rw t at (put-then q r);
+          short = omega (arith, q .next, r .next, line-length (text "-") n, few);
         }
 
-    pub plain-put : ltZ (toZ w64 (ofZ w64 p)) (pos 0) ≡ false → Put (line (text "cell=") (decimal n)) w i u j → PutShort 26 (cellLine p) w i u j
-    unfolding whole line
+    pub plain-put : ltZ (toZ w64 (ofZ w64 p)) (pos 0) ≡ false → Put (line key (decimal n)) w i u j → PutShort (length key + 21) (line key (whole p)) w i u j
+    unfolding whole
     plain-put h q =
         let b = above p f h in
         let m : n ≡ mag p = size-is ∙ ap natAbs b in
         record {
           puts = rw (b, ← m) q;
-          short = omega (arith, q .next, line-length (text "cell=") n, few);
+          short = omega (arith, q .next, line-length key n, few);
         }
 
-pub ruleset cells = (needs, cell-room, minus-put, plain-put)
+pub cell-put : (p : ℤ) → SFits w64 p → (w u : List ℕ) (i j : ℕ) → PutShort 26 (line (text "cell=") (whole (toZ w64 (ofZ w64 p)))) w i u j → PutShort 26 (cellLine p) w i u j
+cell-put p f w u i j q = rw (toZ-ofZ f) at q
+
+pub ruleset signs = (needs, whole-room, minus-room, minus-put, plain-put)
+
+-- ---- the lines of an answer
+ten-digits : (n : ℕ) → n < 2 ^ 32 → length (decimal n) ≤ 10
+ten-digits n h = most-digits 9 n (omega arith)
+
+pub short-line : (key : List ℕ) (n : ℕ) → n < 2 ^ 32 → length (line key (decimal n)) ≤ length key + 11
+short-line key n h = omega (arith, line-length key n, ten-digits n h)
+
+module _ (a : Answer) (w : List ℕ) (i : ℕ) (x : a .worst < 2 ^ 32) (y : a .worstcell < 2 ^ 32) where
+  pub worst-room : i + 70 ≤ length w → i + length (line (text "worst=") (decimal (a .worst))) ≤ length w
+  worst-room h = omega (arith, short-line (text "worst=") (a .worst) x)
+
+  module _ (u : List ℕ) (j : ℕ) (p : Put (line (text "worst=") (decimal (a .worst))) w i u j) (h : i + 70 ≤ length w) where
+    pub cell-room : j + length (line (text "worstcell=") (decimal (a .worstcell))) ≤ length u
+    cell-room = omega (arith, short-line (text "worst=") (a .worst) x, short-line (text "worstcell=") (a .worstcell) y, p .next, put-length p)
+
+    module _ (v : List ℕ) (k : ℕ) (q : Put (line (text "worstcell=") (decimal (a .worstcell))) u j v k) where
+      pub value-room : k + 32 ≤ length v
+      value-room = omega (arith, short-line (text "worst=") (a .worst) x, short-line (text "worstcell=") (a .worstcell) y, p .next, put-length p, q .next, put-length q)
+
+      pub worst-put : (d : List ℕ) (m : ℕ) (z : ℤ) → SFits w64 z → SFits w32 (a .worstvalue) → z ≡ toZ w32 (ofZ w32 (a .worstvalue))
+          → PutShort 32 (line (text "worstvalue=") (whole (toZ w64 (ofZ w64 z)))) v k d m → PutShort 70 (worstLines a) w i d m
+      unfolding worstLines
+      worst-put d m z f g e r = record {
+        puts = put-then p (put-then q (rw (toZ-ofZ f ∙ e ∙ toZ-ofZ g) at (r .puts)));
+        short = omega (arith, short-line (text "worst=") (a .worst) x, short-line (text "worstcell=") (a .worstcell) y, p .next, q .next, r .short);
+      }
+
+pub ruleset worsts = (needs, worst-room, cell-room, value-room, worst-put)
+
+abbrev firstThree : Answer → List ℕ
+firstThree a = threeLines (text "answer=") (a .number) (text "place=") (a .place) (text "rounds=") (a .rounds)
+
+module _ (a : Answer) (w : List ℕ) (i : ℕ) (x : a .interior < 2 ^ 32) (y : a .depth < 2 ^ 32) (h : i + 37 ≤ length w) where
+  pub interior-room : i + length (line (text "interior=") (decimal (a .interior))) ≤ length w
+  interior-room = omega (arith, short-line (text "interior=") (a .interior) x)
+
+  module _ (u : List ℕ) (j : ℕ) (p : Put (line (text "interior=") (decimal (a .interior))) w i u j) where
+    pub depth-room : j + length (line (text "depth=") (decimal (a .depth))) ≤ length u
+    depth-room = omega (arith, short-line (text "interior=") (a .interior) x, short-line (text "depth=") (a .depth) y, p .next, put-length p)
+
+    pub cast-put : (d : List ℕ) (m : ℕ) → Put (line (text "depth=") (decimal (a .depth))) u j d m → PutShort 37 (castLines a) w i d m
+    unfolding castLines
+    cast-put d m q = record {
+      puts = put-then p q;
+      short = omega (arith, short-line (text "interior=") (a .interior) x, short-line (text "depth=") (a .depth) y, p .next, q .next);
+    }
+
+pub ruleset casts = (needs, interior-room, depth-room, cast-put)
+
+answer-parts : (a : Answer) → answerLines a ≡ firstThree a ++ (worstLines a ++ castLines a)
+unfolding answerLines worstLines castLines threeLines
+answer-parts a = simp append-assoc
+
+module _ (a : Answer) (w : List ℕ) (i : ℕ) (x : a .number < 2 ^ 32) (y : a .place < 2 ^ 32) (z : a .rounds < 2 ^ 32) (h : i + answerRoom ≤ length w) where
+  short-three : length (firstThree a) ≤ 53
+  short-three = omega
+      (arith, three-length (text "answer=") (a .number) (text "place=") (a .place) (text "rounds=") (a .rounds), ten-digits (a .number) x, ten-digits (a .place) y, ten-digits (a .rounds) z)
+
+  pub first-room : i + length (firstThree a) ≤ length w
+  first-room = omega (arith, short-three)
+
+  module _ (u : List ℕ) (j : ℕ) (p : Put (firstThree a) w i u j) where
+    pub worst-fits : j + 70 ≤ length u
+    worst-fits = omega (arith, short-three, p .next, put-length p)
+
+    module _ (v : List ℕ) (k : ℕ) (q : PutShort 70 (worstLines a) u j v k) where
+      pub cast-fits : k + 37 ≤ length v
+      cast-fits = omega (arith, short-three, p .next, put-length p, q .short, put-length (q .puts))
+
+      pub answer-put : (d : List ℕ) (m : ℕ) → PutShort 37 (castLines a) v k d m → PutShort answerRoom (answerLines a) w i d m
+      answer-put d m r = record {
+        puts = rw (answer-parts a) (put-then p (put-then (q .puts) (r .puts)));
+        short = omega (arith, short-three, p .next, q .short, r .short);
+      }
+
+pub ruleset answers = (needs, first-room, worst-fits, cast-fits, answer-put)
 
 -- ---- i lines are put
 pub record Celled (ps : List ℤ) (old : List ℕ) (at i : ℕ) (new : List ℕ) (r : ℕ) : Type 0 where
@@ -157,15 +207,15 @@ pub ruleset lists = (needs, celled-none, celled-more, celled-all, celled-room, c
 
 -- ---- the whole print
 module _ (a : Answer) (ps : List ℤ) (w u : List ℕ) (j : ℕ) where
-  pub show-room : printRoom (length ps) ≤ length w → PutShort 108 (answerLines a) w 0 u j → j + 26 * length ps ≤ length u
+  pub show-room : printRoom (length ps) ≤ length w → PutShort answerRoom (answerLines a) w 0 u j → j + 26 * length ps ≤ length u
   show-room r p = omega (arith, p .short, put-length (p .puts))
 
-  pub show-accepted : (d : List ℕ) (m : ℕ) → a .number ≡ 0 → PutShort 108 (answerLines a) w 0 u j → PutShort (26 * length ps) (flatMap cellLine ps) u j d m
+  pub show-accepted : (d : List ℕ) (m : ℕ) → a .number ≡ 0 → PutShort answerRoom (answerLines a) w 0 u j → PutShort (26 * length ps) (flatMap cellLine ps) u j d m
       → PutShort (printRoom (length ps)) (print a ps) w 0 d m
   unfolding print
   show-accepted d m e p q = record { puts = rw (print, e) (put-then (p .puts) (q .puts)); short = omega (arith, p .short, q .short) }
 
-  pub show-other : (a .number ≡ 0 → ⊥) → PutShort 108 (answerLines a) w 0 u j → PutShort (printRoom (length ps)) (print a ps) w 0 u j
+  pub show-other : (a .number ≡ 0 → ⊥) → PutShort answerRoom (answerLines a) w 0 u j → PutShort (printRoom (length ps)) (print a ps) w 0 u j
   unfolding print
   show-other e p = record { puts = go (a .number) refl; short = omega (arith, p .short) }
     where

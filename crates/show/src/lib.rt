@@ -1,21 +1,63 @@
-// The print of an answer (document 01, "The program"): six lines, and on 0 a line for each pressure.
+// The print of an answer (document 01, "The program", and document 02, wish 5): eight lines, and on 0 a line for each pressure.
 ghost use mathlib.Core.Path.{_≡_};
 ghost use mathlib.Core.List.{flatMap};
 ghost use Prim.Native.Nat.{_+_, _*_, _≤_};
 ghost use lib.IntN.{natAbs};
 ghost use lib.ListN.{length};
-ghost use Rattle.method.specs.Program.{answerLines, print};
-ghost use Rattle.show.specs.Shows.{cellLine, printRoom, PutShort};
+ghost use Rattle.method.specs.Form.{line};
+ghost use Rattle.method.specs.Program.{whole, answerLines, print};
+ghost use Rattle.show.specs.Shows.{cellLine, worstLines, castLines, answerRoom, printRoom, PutShort};
 use method::Answer;
+use puts::put_bytes;
 use puts::put_line;
+use whole::wide;
 use writes::put_three;
 
-// Puts the six lines of an answer.
-fn put_answer(output: &mut [u8], at: usize, a: Answer) -> usize
-    requires { ⌜ at + 108 ≤ length (now output) ⌝ }
-    ensures { λ r. ⌜ PutShort 108 (answerLines a) (now (output .entry)) at (now (output .exit)) r ⌝ }
+// The size of any i64, of the least too.
+pub fn size(p: i64) -> u64
+    ensures { λ r. ⌜ r ≡ natAbs p ⌝ }
 {
-    let next = put_three(
+    if p < 0 { (-1 - p) as u64 + 1 } else { p as u64 }
+}
+
+// Puts a line of a key and a whole number: a minus where it is negative, and its size.
+fn put_whole(output: &mut [u8], at: usize, key: &[u8], p: i64) -> usize
+    requires { ⌜ at + (length (now key) + 21) ≤ length (now output) ⌝ }
+    ensures { λ r. ⌜ PutShort (length (now (key .entry)) + 21) (line (now (key .entry)) (whole p)) (now (output .entry)) at (now (output .exit)) r ⌝ }
+{
+    let n = size(p);
+    if p < 0 {
+        let sign = put_bytes(output, at, key);
+        return put_line(output, sign, b"-", n);
+    }
+    put_line(output, at, key, n)
+}
+
+// Puts the worst residual, its cell and its value with the sign.
+fn put_worst(output: &mut [u8], at: usize, a: Answer) -> usize
+    requires { ⌜ at + 70 ≤ length (now output) ⌝ }
+    ensures { λ r. ⌜ PutShort 70 (worstLines a) (now (output .entry)) at (now (output .exit)) r ⌝ }
+{
+    let cell = put_line(output, at, b"worst=", a.worst as u64);
+    let left = put_line(output, cell, b"worstcell=", a.worstcell as u64);
+    put_whole(output, left, b"worstvalue=", wide(a.worstvalue))
+}
+
+// Puts what an answer says of the cast alone.
+fn put_cast(output: &mut [u8], at: usize, a: Answer) -> usize
+    requires { ⌜ at + 37 ≤ length (now output) ⌝ }
+    ensures { λ r. ⌜ PutShort 37 (castLines a) (now (output .entry)) at (now (output .exit)) r ⌝ }
+{
+    let depth = put_line(output, at, b"interior=", a.interior as u64);
+    put_line(output, depth, b"depth=", a.depth as u64)
+}
+
+// Puts the eight lines of an answer.
+fn put_answer(output: &mut [u8], at: usize, a: Answer) -> usize
+    requires { ⌜ at + answerRoom ≤ length (now output) ⌝ }
+    ensures { λ r. ⌜ PutShort answerRoom (answerLines a) (now (output .entry)) at (now (output .exit)) r ⌝ }
+{
+    let worst = put_three(
         output,
         at,
         b"answer=",
@@ -25,36 +67,16 @@ fn put_answer(output: &mut [u8], at: usize, a: Answer) -> usize
         b"rounds=",
         a.rounds,
     );
-    put_three(
-        output,
-        next,
-        b"worst=",
-        a.worst,
-        b"interior=",
-        a.interior,
-        b"depth=",
-        a.depth,
-    )
+    let interior = put_worst(output, worst, a);
+    put_cast(output, interior, a)
 }
 
-// The size of any i64, of the least too.
-pub fn size(p: i64) -> u64
-    ensures { λ r. ⌜ r ≡ natAbs p ⌝ }
-{
-    if p < 0 { (-1 - p) as u64 + 1 } else { p as u64 }
-}
-
-// Puts the line of a pressure: a minus where it is negative, and its size.
+// Puts the line of a pressure.
 fn put_cell(output: &mut [u8], at: usize, p: i64) -> usize
     requires { ⌜ at + 26 ≤ length (now output) ⌝ }
     ensures { λ r. ⌜ PutShort 26 (cellLine p) (now (output .entry)) at (now (output .exit)) r ⌝ }
 {
-    let n = size(p);
-    if p < 0 {
-        put_line(output, at, b"cell=-", n)
-    } else {
-        put_line(output, at, b"cell=", n)
-    }
+    put_whole(output, at, b"cell=", p)
 }
 
 // Puts the lines of all pressures, one after the other.

@@ -23,7 +23,7 @@ use Rattle.method.specs.Cast.{Axis, axes, along, cells, isAir, labelAt, back, o
 use Rattle.method.specs.Levels.{value}
 use Rattle.method.specs.Cycle.{airSum, ascending, descending}
 use Rattle.theory.specs.Waves.{waves}
-use Rattle.theory.proofs.Sides.{Fit, x-axis, y-axis, z-axis}
+use Rattle.theory.specs.Sides.{Fit, x-axis, y-axis, z-axis}
 use Rattle.theory.proofs.Neighbours.{back-yes, back-no, back-far, on-yes, on-no}
 use Rattle.theory.proofs.Waves.{waves-below, waves-pass}
 use Rattle.grid.proofs.Steps.{cells-most}

@@ -10,7 +10,7 @@ use Rattle.laws.specs.Binary64.{+0}
 use Rattle.method.specs.declared.Sides.{Sides}
 use Rattle.method.specs.Cast.{cells, isAir}
 use Rattle.method.specs.Levels.{value}
-use Rattle.theory.proofs.Sides.{Fit}
+use Rattle.theory.specs.Sides.{Fit}
 use Rattle.smooth.specs.Fields.{Level}
 use Rattle.grid.specs.Entries.{entryOf, cellsOf}
 use Rattle.smooth.specs.Written.{Covers}

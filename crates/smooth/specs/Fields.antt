@@ -9,7 +9,7 @@ use Rattle.method.specs.declared.Sides.{Sides}
 use Rattle.method.specs.Cast.{cells, isAir}
 use Rattle.method.specs.Levels.{value}
 use Rattle.method.specs.Cycle.{relaxed}
-use Rattle.theory.proofs.Sides.{Fit}
+use Rattle.theory.specs.Sides.{Fit}
 
 abbrev pub u-of : ℕ → List Float → List Float
 u-of n r = take n r

@@ -8,7 +8,7 @@ ghost use Rattle.laws.specs.Binary64.{+0};
 ghost use Rattle.laws.specs.Lists.{tab};
 ghost use Rattle.method.specs.Cast.{cells};
 ghost use Rattle.method.specs.Cycle.{zeros};
-ghost use Rattle.theory.proofs.Sides.{Fit};
+ghost use Rattle.theory.specs.Sides.{Fit};
 
 pub mod entries;
 pub mod stencils;

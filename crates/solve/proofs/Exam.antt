@@ -9,7 +9,7 @@ use Rattle.laws.specs.Whole.{_-ᶻ_, _*ᶻ_}
 use Rattle.method.specs.declared.Answer.{Answer}
 use Rattle.method.specs.Cast.{labelAt, field}
 use Rattle.method.specs.Calls.{Asked, Solved, solving}
-use Rattle.method.proofs.Cases.{call, half, faulty, answer, ends, stays, sevens, case-a, case-b, case-c, case-d, case-e, case-l}
+use Rattle.method.proofs.Cases.{call, half, faulty, answer, answerAt, ends, stays, sevens, case-a, case-b, case-c, case-d, case-e, case-l}
 use Rattle.theory.specs.Exact.{Solves, bound}
 use Rattle.theory.proofs.Question3.{question-3}
 use Rattle.solve.specs.Solve.{SolveOf}
@@ -48,7 +48,7 @@ module _ (r : Answer) (ps : List ℤ) (bytes : List ℕ) (floats : List Float) (
   pub solved-b : SolveOf (half 0 1) r ps bytes floats words → left r ps bytes floats words ≡ ends 22 88 6 (answer 8 0 1 0 1 1) (sevens 3)
   solved-b z = by-promise z _ case-b
 
-  pub solved-c : SolveOf (half 1 5) r ps bytes floats words → left r ps bytes floats words ≡ ends 22 88 6 (answer 0 0 0 1 1 1) (pos 0 ∷ pos 0 ∷ pos 0 ∷ [])
+  pub solved-c : SolveOf (half 1 5) r ps bytes floats words → left r ps bytes floats words ≡ ends 22 88 6 (answerAt 0 0 0 1 1 (pos 1) 1 1) (pos 0 ∷ pos 0 ∷ pos 0 ∷ [])
   solved-c z = by-promise z _ case-c
 
   pub solved-d : SolveOf (call 5 (1 ∷ 0 ∷ 2 ∷ 0 ∷ 2 ∷ []) (replicate 5 (pos 0)) 0 5) r ps bytes floats words

@@ -1,12 +1,14 @@
 -- The checks before 7, in their order. Assumes nothing.
 use Prim.Native.Nat.{ℕ, zero, suc, _+_, _*_, _≤_, _<_}
 use mathlib.Core.Path.{_≡_, refl, sym, ap, ap₂, _∙_}
-use mathlib.Core.Bool.{Bool, true, false, not, _&&_, false≢true}
+use mathlib.Core.Logic.{⊎-elim}
+use mathlib.Core.Bool.{Bool, true, false, not, cond, _&&_, false≢true}
 use mathlib.Core.List.{List, [], _∷_}
+use native.Mathlib.Nat.{eq-or-lt-of-le, le-of-suc-le-suc}
 use native.Mathlib.Omega.{arith}
 use borrow.Author.Needs.{needs}
 use borrow.Author.Tests.{eq-eqb, ne-eqb, le-leb, lt-leb, lt-ltb, eqb-true}
-use lib.Dec.{ltb, leb, eqb}
+use lib.Dec.{T, T-not, ltb, leb, eqb}
 use lib.IntN.{ℤ}
 use lib.Ieee.{Float}
 use lib.ListN.{length}
@@ -14,10 +16,15 @@ use Rattle.method.specs.declared.Sides.{Sides}
 use Rattle.method.specs.declared.Settings.{Settings}
 use Rattle.method.specs.declared.Found.{Found}
 use Rattle.method.specs.declared.Found.the-variants.{Nowhere, At}
-use Rattle.method.specs.Cast.{cells, sidesFit, settingsFit, interior}
+use Rattle.laws.specs.Loops.{up}
+use Rattle.laws.proofs.Bools.{is-true}
+use Rattle.method.specs.Cast.{cells, labelAt, isAir, judged, isAt, first, sidesFit, settingsFit, interior}
 use Rattle.method.specs.Answers.{verdict, fault, byteNeed, floatNeed, wordNeed}
 use Rattle.method.specs.Calls.{Asked, lengthsFit, checksBefore7}
-use Rattle.theory.proofs.Sides.{Fit, fit}
+use Rattle.theory.specs.Sides.{Fit}
+use Rattle.theory.proofs.Sides.{fit}
+use Rattle.theory.proofs.Counting.{some-counted}
+use Rattle.theory.proofs.Firsts.{FirstAt, Search, found, none, search-first, None, none-none, none-more, none-end, hit}
 use Rattle.checks.specs.declared.Ruling.{Ruling}
 use Rattle.checks.specs.declared.Ruling.the-variants.{Refused, Allowed}
 use Rattle.checks.specs.Rulings.{rulingOf, rulingBy, firstOf}
@@ -41,28 +48,73 @@ module _ (n labels values pressures bytes floats words : ℕ) where
   pressures-wrong a b h = rw (eq-eqb labels n a, eq-eqb values n b, ne-eqb pressures n h)
 
   module _ (a : labels ≡ n) (b : values ≡ n) (c : pressures ≡ n) where
-    pub bytes-short : bytes < 2 * n + 16 → false ≡ lengthsBy n labels values pressures bytes floats words
-    unfolding lengthsBy byteNeed
-    bytes-short h = rw (eq-eqb labels n a, eq-eqb values n b, eq-eqb pressures n c, lt-leb (2 * n + 16) bytes h)
+    module _ (l : ℕ) (p : l ≡ byteNeed n) where
+      pub bytes-short : bytes < l → false ≡ lengthsBy n labels values pressures bytes floats words
+      unfolding lengthsBy
+      bytes-short h = rw (eq-eqb labels n a, eq-eqb values n b, eq-eqb pressures n c, lt-leb (byteNeed n) bytes (omega (arith, p)))
 
-    pub floats-short : 2 * n + 16 ≤ bytes → floats < 8 * n + 64 → false ≡ lengthsBy n labels values pressures bytes floats words
-    unfolding lengthsBy byteNeed floatNeed
-    floats-short d h = rw (eq-eqb labels n a, eq-eqb values n b, eq-eqb pressures n c, le-leb (2 * n + 16) bytes d, lt-leb (8 * n + 64) floats h)
+      module _ (m : ℕ) (q : m ≡ floatNeed n) (d : l ≤ bytes) where
+        pub floats-short : floats < m → false ≡ lengthsBy n labels values pressures bytes floats words
+        unfolding lengthsBy
+        floats-short h = rw (eq-eqb labels n a, eq-eqb values n b, eq-eqb pressures n c, le-leb (byteNeed n) bytes (omega (arith, p)), lt-leb (floatNeed n) floats (omega (arith, q)))
 
-    pub words-last : 2 * n + 16 ≤ bytes → 8 * n + 64 ≤ floats → leb (2 * n) words ≡ lengthsBy n labels values pressures bytes floats words
-    unfolding lengthsBy byteNeed floatNeed wordNeed
-    words-last d e = rw (eq-eqb labels n a, eq-eqb values n b, eq-eqb pressures n c, le-leb (2 * n + 16) bytes d, le-leb (8 * n + 64) floats e)
+        pub words-last : (k : ℕ) → k ≡ wordNeed n → m ≤ floats → leb k words ≡ lengthsBy n labels values pressures bytes floats words
+        unfolding lengthsBy
+        words-last k r e = rw (eq-eqb labels n a, eq-eqb values n b, eq-eqb pressures n c, le-leb (byteNeed n) bytes (omega (arith, p)), le-leb (floatNeed n) floats (omega (arith, q)), r)
 
 pub ruleset lengths = (needs, labels-wrong, values-wrong, pressures-wrong, bytes-short, floats-short, words-last)
 
+-- ---- check 6: some cell is air
+module _ (ls : List ℕ) where
+  pub air-is : (c l : ℕ) → l ≡ labelAt ls c → eqb l 0 ≡ isAir ls c
+  unfolding isAir
+  air-is c l e = ap (λ m. eqb m 0) e
+
+  pub air-found : (i n : ℕ) (r : Bool) → i < n → None (isAir ls) i → r ≡ isAir ls i → r ≡ true → true ≡ isAt (first (isAir ls) n)
+  unfolding isAt
+  air-found i n r h k e f = ap isAt (hit (isAir ls) i n r h k e f)
+
+  pub air-missing : (i n : ℕ) → i ≤ n → n ≤ i → None (isAir ls) i → false ≡ isAt (first (isAir ls) n)
+  unfolding isAt
+  air-missing i n a b k = ap isAt (none-end (isAir ls) i n a b k)
+
+pub ruleset airs = (needs, none-none, none-more, air-found, air-missing)
+
+grows : (b : Bool) (d : ℕ) → d ≤ cond b (d + 1) d
+grows true d = omega arith
+grows false d = omega arith
+
+counted-some : (p : ℕ → Bool) (n j : ℕ) → j < n → p j ≡ true → 0 < up (λ c i. cond (p c) (i + 1) i) n 0
+unfolding up
+counted-some p zero j h e = absurd (omega arith)
+counted-some p (suc n) j h e = ⊎-elim
+    (λ q. let f : p n ≡ true = ap p (sym q) ∙ e in rw f (omega arith))
+    (λ r. omega (arith, counted-some p n j r e, grows (p n) (up (λ c i. cond (p c) (i + 1) i) n 0)))
+    (eq-or-lt-of-le (le-of-suc-le-suc h))
+
+counted-none : (p : ℕ → Bool) (n : ℕ) → ((j : ℕ) → j < n → T (not (p j))) → up (λ c i. cond (p c) (i + 1) i) n 0 ≡ 0
+counted-none p n h = go (up (λ c i. cond (p c) (i + 1) i) n 0) refl
+  where
+    go : (m : ℕ) → up (λ c i. cond (p c) (i + 1) i) n 0 ≡ m → m ≡ 0
+    go zero e = refl
+    go (suc m) e = let w = some-counted p n (λ z. omega (arith, e, z)) in absurd (T-not (p (w .0)) (h (w .0) (w .1)) (w .2))
+
+some-air-is : (g : Sides) (ls : List ℕ) → length ls ≡ cells g → isAt (first (isAir ls) (length ls)) ≡ ltb 0 (interior g ls)
+unfolding interior judged isAt
+some-air-is g ls len = ap (λ n. isAt (first (isAir ls) n)) len ∙ go (search-first (isAir ls) (cells g))
+  where
+    go : Search (isAir ls) (cells g) → isAt (first (isAir ls) (cells g)) ≡ ltb 0 (interior g ls)
+    go (found c e r) = ap isAt e ∙ sym (lt-ltb 0 (interior g ls) (counted-some (isAir ls) (cells g) c (r .below) (is-true (isAir ls c) (r .here))))
+    go (none e h) = ap isAt e ∙ ap (ltb 0) (sym (counted-none (isAir ls) (cells g) h))
+
 -- ---- checks 3 to 6
-pub content-is : (g : Sides) (ls : List ℕ) (vs : List ℤ) (t : Settings) (n : ℕ) (s : Bool) (i : ℕ) (x y : Found) (p q r m o : Ruling)
-    → s ≡ settingsFit t → x ≡ fault (not s) → p ≡ rulingBy 3 x → q ≡ cellRuling ls vs n → i ≡ interior g ls → y ≡ fault (not (ltb 0 i)) → r ≡ rulingBy 6 y
+pub content-is : (g : Sides) (ls : List ℕ) (vs : List ℤ) (t : Settings) (n : ℕ) (s i : Bool) (x y : Found) (p q r m o : Ruling) → length ls ≡ n → n ≡ cells g
+    → s ≡ settingsFit t → x ≡ fault (not s) → p ≡ rulingBy 3 x → q ≡ cellRuling ls vs n → i ≡ isAt (first (isAir ls) (length ls)) → y ≡ fault (not i) → r ≡ rulingBy 6 y
     → m ≡ firstOf q r → o ≡ firstOf p m → o ≡ contentRuling g ls vs t n
 unfolding contentRuling
-content-is g ls vs t n s i x y p q r m o es ex ep eq ei ey er em eo =
+content-is g ls vs t n s i x y p q r m o l c es ex ep eq ei ey er em eo =
     eo ∙ ap₂ firstOf (ep ∙ ap (rulingBy 3) (ex ∙ ap (λ b. fault (not b)) es))
-    (em ∙ ap₂ firstOf eq (er ∙ ap (rulingBy 6) (ey ∙ ap (λ j. fault (not (ltb 0 j))) ei)))
+    (em ∙ ap₂ firstOf eq (er ∙ ap (rulingBy 6) (ey ∙ ap (λ b. fault (not b)) (ei ∙ some-air-is g ls (l ∙ c)))))
 
 pub ruleset contents = (needs, content-is)
 

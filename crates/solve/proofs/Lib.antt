@@ -1,5 +1,4 @@
 -- What the proofs of several functions cite.
-pub mod Clears
 pub mod Judging
 pub mod Preparing
 pub mod Working

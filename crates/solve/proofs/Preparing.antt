@@ -9,12 +9,13 @@ use Rattle.method.specs.declared.Sides.{Sides}
 use Rattle.method.specs.Cast.{cells}
 use Rattle.theory.specs.Levels.{airBefore}
 use Rattle.levels.specs.declared.sides.Levels.{Levels}
-use Rattle.levels.specs.declared.lists.Lists.{Lists}
+use Rattle.bands.specs.declared.lists.Lists.{Lists}
 use Rattle.levels.specs.Rooms.{written}
 use Rattle.levels.specs.Levels.{levelsOf, base}
 use Rattle.levels.specs.AllLabels.{LabelsAsked, allLabels}
-use Rattle.levels.specs.AllLists.{baseLabels, AllListed, ListsAsked}
-use Rattle.levels.proofs.Calls.{base-is, labels-asked, base-labels, lists-asked}
+use Rattle.bands.specs.AllLists.{baseLabels, AllListed, ListsAsked}
+use Rattle.levels.proofs.Calls.{base-is, labels-asked}
+use Rattle.bands.proofs.Calls.{base-labels, lists-asked}
 use Rattle.cycle.proofs.Calls.{prepared-from}
 use Rattle.solve.specs.Work.{PrepareAsked, PlanOf}
 

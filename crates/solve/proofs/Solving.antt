@@ -21,7 +21,8 @@ use Rattle.method.specs.Cast.{cells, labelAt, sealed, between, sidesFit, settin
 use Rattle.method.specs.Answers.{Verdict, passed, refused, verdict, refusal, byteNeed, floatNeed, wordNeed, cleared}
 use Rattle.method.specs.Calls.{Asked, size, Solved, lengthsFit, checksBefore7, untouched, handedBack, solving}
 use Rattle.theory.specs.Walks.{Walk}
-use Rattle.theory.proofs.Sides.{Fit, fit}
+use Rattle.theory.specs.Sides.{Fit}
+use Rattle.theory.proofs.Sides.{fit}
 use Rattle.theory.proofs.Verdicts.{AllPass, all-pass, no-fault}
 use Rattle.theory.proofs.Accepted.{sides-fit, sized, some-air, reaching}
 use Rattle.theory.proofs.Reach.{test-air}
@@ -32,7 +33,7 @@ use Rattle.checks.specs.Rulings.{rulingOf}
 use Rattle.rounds.specs.Rounds.{castOf}
 use Rattle.solve.specs.Solve.{asked, SolveOf}
 use Rattle.solve.specs.Work.{Checked, fromSeven, Worked}
-use Rattle.solve.proofs.Clears.{cleared-home}
+use Rattle.rooms.proofs.Clears.{cleared-home}
 use Rattle.solve.proofs.Judging.{both}
 
 pub in-range : (lo hi x : ℕ) → between lo hi x ≡ true → (lo ≤ x) × (x ≤ hi)

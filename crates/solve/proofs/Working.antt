@@ -13,24 +13,30 @@ use Rattle.method.specs.declared.Settings.{Settings}
 use Rattle.method.specs.declared.Answer.{Answer}
 use Rattle.method.specs.declared.Found.{Found}
 use Rattle.method.specs.declared.Found.the-variants.{Nowhere, At}
-use Rattle.method.specs.Cast.{Cast, cells, interior, depth, sealed}
-use Rattle.method.specs.Answers.{check, Verdict, passed, refused, verdict, refusal, byteNeed, floatNeed, wordNeed}
-use Rattle.method.specs.Rounds.{End, solved, failed, rounded, start, ending}
-use Rattle.method.specs.Rounds as Rounds
-use Rattle.method.specs.Calls.{Asked, Solved, checksFrom7, handedBack, ended}
-use Rattle.theory.proofs.Sides.{Fit}
+use Rattle.method.specs.Cast.{Cast, cells, worst, interior, depth, sealed}
+use Rattle.method.specs.Answers.{check, Verdict, passed, refused, verdict, refusal, accepted, unfinished, byteNeed, floatNeed, wordNeed}
+use Rattle.method.specs.Rounds.{solved, failed, rounded, ending}
+use Rattle.method.specs.Calls.{Asked, Solved, checksFrom7, handedBack, answerOf, pressuresOf, ended}
+use Rattle.theory.specs.Sides.{Fit}
+use Rattle.theory.proofs.Worst.{end-worst}
+use Rattle.answers.specs.declared.Ended.{Ended}
+use Rattle.answers.specs.declared.Ended.the-variants.{Accepted, Unfinished}
+use Rattle.answers.specs.declared.Measured.{Measured}
+use Rattle.answers.specs.declared.Worst.{Worst}
+use Rattle.answers.specs.Ends.{endOf}
+use Rattle.worst.specs.Worst.{Sought, worstOf}
 use Rattle.walks.specs.Search.{Roomy}
 use Rattle.trial.specs.Trial as Trial
-use Rattle.levels.proofs.Calls.{words-enough}
+use Rattle.bands.proofs.Calls.{words-enough}
 use Rattle.checks.proofs.RuleLaws.{fails-at, passes-on, ruling-none}
 use Rattle.rounds.specs.declared.Plan.{Plan}
-use Rattle.rounds.specs.Rounds.{castOf, planSides, Ready, endOf, EndOf}
+use Rattle.rounds.specs.Rounds.{castOf, planSides, Ready, EndOf}
 use Rattle.rounds.proofs.Turns.{fit-planned}
-use Rattle.solve.specs.Work.{PrepareAsked, PlanOf, answerIn, pressuresIn, RunAsked, endFrom, Ran, Checked, fromSeven, Worked}
+use Rattle.solve.specs.Work.{PrepareAsked, PlanOf, OfCast, RunAsked, Ran, Checked, fromSeven, Worked}
 
 -- ---- one set of values
-module _ {g : Sides} {ls : List ℕ} {vs : List ℤ} {t : Settings} {plan : Plan} {bytes words : List ℕ} {floats pressures : ℕ}
-    (z : RunAsked g ls vs t plan bytes words floats pressures) where
+module _ {g : Sides} {ls : List ℕ} {vs : List ℤ} {t : Settings} {m : Measured} {plan : Plan} {bytes words : List ℕ} {floats pressures : ℕ}
+    (z : RunAsked g ls vs t m plan bytes words floats pressures) where
   pub run-fit : Fit g
   run-fit = fit-planned (z .ready .planned)
 
@@ -43,36 +49,48 @@ module _ {g : Sides} {ls : List ℕ} {vs : List ℤ} {t : Settings} {plan : Plan
   pub labelled-run : length ls ≡ cells g
   labelled-run = z .ready .planned .labelled
 
-end-zero : (r : Answer) (ps : List ℤ) → r .number ≡ 0 → endOf r ps ≡ solved r ps
-unfolding endOf
-end-zero r ps e = ap (λ n. elim n [ zero ↦ solved r ps | suc k ↦ failed r ]) e
+  pub tolerance-run : t .tolerance ≤ 1000000
+  tolerance-run = z .ready .tolerance
 
-end-other : (r : Answer) (ps : List ℤ) → (r .number ≡ 0 → ⊥) → endOf r ps ≡ failed r
-unfolding endOf
-end-other r ps h = go (r .number) h
-  where
-    go : (n : ℕ) → (n ≡ 0 → ⊥) → _≡_ {A = End} (elim n [ zero ↦ solved r ps | suc k ↦ failed r ]) (failed r)
-    go zero f = absurd (f refl)
-    go (suc k) f = refl
+-- how the rounds ended, by what `rounds::run` promises
+module _ (g : Sides) (ls : List ℕ) (vs : List ℤ) (t : Settings) (e : Ended) (s : List Float) (z : EndOf g ls vs t e s) where
+  abbrev k : Cast
+  k = castOf g ls vs
 
-module _ (g : Sides) (ls : List ℕ) (vs : List ℤ) (t : Settings) (i d : ℕ) (r : Answer) (s : List Float) (ei : i ≡ interior g ls) (z : EndOf g ls vs t i d r s) where
-  end-is : endFrom (castOf g ls vs) t d ≡ endOf r (rounded (castOf g ls vs) (take (cells g) s))
-  end-is = ap (λ j. Rounds.run (castOf g ls vs) t j d (t .rounds) (start (castOf g ls vs))) (sym ei) ∙ z .is
+  end-is : ending (castOf g ls vs) t ≡ endOf e (rounded (castOf g ls vs) (take (cells g) s))
+  unfolding ending
+  end-is = z .is
 
-  pub ran-solved : (ps qs : List ℤ) → length ls ≡ cells g → r .number ≡ 0 → qs ≡ rounded (castOf g ls vs) (take (length ls - 0) (drop 0 s)) → Ran (castOf g ls vs) t d ps r qs
-  unfolding answerIn pressuresIn
-  ran-solved ps qs n h q =
-      let m : length ls - 0 ≡ cells g = omega arith in
-      let e = end-is ∙ end-zero r (rounded (castOf g ls vs) (take (cells g) s)) h in
-      record { answer = sym (ap answerIn e); pressures = q ∙ ap (λ j. rounded (castOf g ls vs) (take j s)) m ∙ sym (ap (λ x. pressuresIn x ps) e) }
+  module _ (n w : ℕ) (h : e ≡ Accepted n w) (long : length ls ≡ cells g) where
+    end-accepted : ending k t ≡ solved n w (rounded k (take (cells g) s))
+    unfolding endOf
+    end-accepted = end-is ∙ ap (λ x. endOf x (rounded k (take (cells g) s))) h
 
-  pub ran-failed : (ps : List ℤ) → (r .number ≡ 0 → ⊥) → Ran (castOf g ls vs) t d ps r ps
-  unfolding answerIn pressuresIn
-  ran-failed ps h =
-      let e = end-is ∙ end-other r (rounded (castOf g ls vs) (take (cells g) s)) h in
-      record { answer = sym (ap answerIn e); pressures = sym (ap (λ x. pressuresIn x ps) e) }
+    same-x : rounded k (take (length ls - 0) (drop 0 s)) ≡ rounded k (take (cells g) s)
+    same-x = let m : length ls - 0 ≡ cells g = omega arith in ap (λ j. rounded k (take j s)) m
 
-pub ruleset running = (needs, run-fit, asked-x, labelled-run, ran-solved, ran-failed)
+    pub sought : t .tolerance ≤ 1000000 → Trial.Asked g ls vs (take (length ls - 0) (drop 0 s)) → Sought g ls vs (take (length ls - 0) (drop 0 s)) w
+    sought small a =
+        let there = end-worst k t n w (rounded k (take (cells g) s)) long end-accepted in
+        record { asked = a; is = there .0 ∙ ap (worst k) (sym same-x); small = omega (arith, there .1) }
+
+    pub ran-accepted : (m : Measured) (at : Worst) (ps qs : List ℤ) (r : Answer) → OfCast g ls m → qs ≡ rounded k (take (length ls - 0) (drop 0 s))
+        → at ≡ worstOf k (rounded k (take (length ls - 0) (drop 0 s))) → r ≡ accepted n w (at .cell) (at .left) (m .interior) (m .depth) → Ran k t ps r qs
+    unfolding answerOf pressuresOf
+    ran-accepted m at ps qs r c q a b =
+        let here : at ≡ worstOf k (rounded k (take (cells g) s)) = a ∙ ap (worstOf k) same-x in
+        record {
+          answer = b ∙ rw (here, c .interior-is, c .depth-is) refl ∙ sym (ap (answerOf k) end-accepted);
+          pressures = q ∙ same-x ∙ sym (ap (pressuresOf ps) end-accepted);
+        }
+
+  pub ran-unfinished : (n o : ℕ) (m : Measured) (ps : List ℤ) (r : Answer) → e ≡ Unfinished n o → OfCast g ls m → r ≡ unfinished n o (m .interior) (m .depth) → Ran k t ps r ps
+  unfolding answerOf pressuresOf endOf
+  ran-unfinished n o m ps r h c b =
+      let end : ending k t ≡ failed n o = end-is ∙ ap (λ x. endOf x (rounded k (take (cells g) s))) h in
+      record { answer = b ∙ rw (c .interior-is, c .depth-is) refl ∙ sym (ap (answerOf k) end); pressures = sym (ap (pressuresOf ps) end) }
+
+pub ruleset running = (needs, run-fit, asked-x, labelled-run, tolerance-run)
 
 -- ---- check 7, and what comes after it
 module _ {g : Sides} {ls : List ℕ} {vs : List ℤ} {t : Settings} {pressures bytes floats words : ℕ} (z : Checked g ls vs t pressures bytes floats words) where
@@ -90,9 +108,10 @@ module _ {g : Sides} {ls : List ℕ} {vs : List ℤ} {t : Settings} {pressures b
     words-long = words-enough g ls (z .fit) (z .labelled) (z .reached (sym e ∙ h)) (z .first-air) (z .is-air) (t .levels) (length room) (omega (arith, z .words-long));
   }
 
-  pub run-asked : (plan : Plan) (bs ws : List ℕ) → PlanOf g ls (t .levels) plan bs ws → RunAsked g ls vs t plan bs ws floats pressures
+  pub run-asked : (m : Measured) (plan : Plan) (bs ws : List ℕ) → OfCast g ls m → PlanOf g ls (t .levels) plan bs ws → RunAsked g ls vs t m plan bs ws floats pressures
   unfolding floatNeed
-  run-asked plan bs ws p = record {
+  run-asked m plan bs ws o p = record {
+    of-cast = o;
     ready = record {
       planned = record {
         prepared = record { levels = p .prepared; size = ap cells (sym (p .sides)); roomy = omega (arith, z .floats-long) };
@@ -124,15 +143,10 @@ module _ (a : Asked) where
   unfolding fromSeven
   from-refused place e = ap by-verdict (seven-fails place e)
 
-  ended-is : (e : End) → ended a e ≡ handedBack a (answerIn e) (pressuresIn e (a .pressures))
-  unfolding ended answerIn pressuresIn
-  ended-is (solved r ps) = refl
-  ended-is (failed r) = refl
-
   from-passed : sealed (a .cast .sides) (a .cast .labels) ≡ Nowhere
-      → fromSeven a ≡ handedBack a (answerIn (ending (a .cast) (a .settings))) (pressuresIn (ending (a .cast) (a .settings)) (a .pressures))
-  unfolding fromSeven
-  from-passed e = ap by-verdict (seven-passes e) ∙ ended-is (ending (a .cast) (a .settings))
+      → fromSeven a ≡ handedBack a (answerOf (a .cast) (ending (a .cast) (a .settings))) (pressuresOf (a .pressures) (ending (a .cast) (a .settings)))
+  unfolding fromSeven ended
+  from-passed e = ap by-verdict (seven-passes e)
 
 module _ (g : Sides) (ls : List ℕ) (vs : List ℤ) (t : Settings) (ps : List ℤ) (r : Answer) (w : Found) (e : w ≡ sealed g ls) where
   pub worked-refused : (place : ℕ) → w ≡ At place → r ≡ refusal 7 place → Worked (castOf g ls vs) t ps r ps
@@ -141,15 +155,16 @@ module _ (g : Sides) (ls : List ℕ) (vs : List ℤ) (t : Settings) (ps : List �
         from-refused a place (ap (λ (k : Cast). sealed (k .sides) (k .labels)) ek ∙ sym e ∙ h) ∙ ap₂ (handedBack a) (sym q) ep;
   }
 
-  pub worked-run : (qs : List ℤ) (d : ℕ) → w ≡ Nowhere → d ≡ depth g ls → Ran (castOf g ls vs) t d ps r qs → Worked (castOf g ls vs) t ps r qs
-  unfolding ending
-  worked-run qs d h ed p =
-      let whole : endFrom (castOf g ls vs) t d ≡ ending (castOf g ls vs) t = ap (endFrom (castOf g ls vs) t) ed in
-      record {
-        is = λ a ek et ep.
-            let end : ending (a .cast) (a .settings) ≡ endFrom (castOf g ls vs) t d = ap₂ ending ek et ∙ sym whole in
-            from-passed a (ap (λ (k : Cast). sealed (k .sides) (k .labels)) ek ∙ sym e ∙ h)
-            ∙ ap₂ (handedBack a) (ap answerIn end ∙ sym (p .answer)) (ap₂ pressuresIn end ep ∙ sym (p .pressures));
-      }
+  pub worked-run : (qs : List ℤ) → w ≡ Nowhere → Ran (castOf g ls vs) t ps r qs → Worked (castOf g ls vs) t ps r qs
+  worked-run qs h p = record {
+    is = λ a ek et ep.
+        let end : ending (a .cast) (a .settings) ≡ ending (castOf g ls vs) t = ap₂ ending ek et in
+        from-passed a (ap (λ (k : Cast). sealed (k .sides) (k .labels)) ek ∙ sym e ∙ h)
+        ∙ ap₂ (handedBack a) (ap₂ answerOf ek end ∙ sym (p .answer)) (ap₂ pressuresOf ep end ∙ sym (p .pressures));
+  }
+
+-- what is measured of the cast
+pub of-cast : (g : Sides) (ls : List ℕ) (i d : ℕ) → i ≡ interior g ls → d ≡ depth g ls → OfCast g ls (record { interior = i; depth = d })
+of-cast g ls i d a b = record { interior-is = a; depth-is = b }
 
 pub ruleset working = (needs, search-room, prepare-asked, run-asked, worked-refused, worked-run)

@@ -8,14 +8,14 @@ use Rattle.method.specs.declared.Sides.{Sides}
 use Rattle.method.specs.declared.Settings.{Settings}
 use Rattle.method.specs.declared.Answer.{Answer}
 use Rattle.method.specs.declared.Found.the-variants.{Nowhere}
-use Rattle.method.specs.Cast.{Cast, cells, labelAt, interior, sealed}
+use Rattle.method.specs.Cast.{Cast, cells, labelAt, interior, depth, sealed}
 use Rattle.method.specs.Answers.{Verdict, passed, refused, verdict, refusal, byteNeed, floatNeed, wordNeed}
-use Rattle.method.specs.Rounds.{End, solved, failed, start, ending}
-use Rattle.method.specs.Rounds as Rounds
-use Rattle.method.specs.Calls.{Asked, Solved, checksFrom7, handedBack, ended}
+use Rattle.method.specs.Rounds.{ending}
+use Rattle.method.specs.Calls.{Asked, Solved, checksFrom7, handedBack, answerOf, pressuresOf, ended}
 use Rattle.theory.specs.Walks.{Walk}
 use Rattle.theory.specs.Levels.{airBefore}
-use Rattle.theory.proofs.Sides.{Fit}
+use Rattle.theory.specs.Sides.{Fit}
+use Rattle.answers.specs.declared.Measured.{Measured}
 use Rattle.cycle.specs.Rooms.{Prepared}
 use Rattle.rounds.specs.declared.Plan.{Plan}
 use Rattle.rounds.specs.Rounds.{planSides, planLabels, Ready}
@@ -36,25 +36,19 @@ pub record PlanOf (g : Sides) (ls : List ℕ) (levels : ℕ) (plan : Plan) (byte
   pub count : plan .count ≡ levels
 
 -- ---- run
--- what an end comes to: its answer, and the pressures, which only an accepted one writes
-unfoldable pub answerIn : End → Answer
-answerIn (solved r ps) = r
-answerIn (failed r) = r
+-- what an answer says of the cast alone, as it is
+pub record OfCast (g : Sides) (ls : List ℕ) (m : Measured) : Type 0 where
+  pub interior-is : m .interior ≡ interior g ls
+  pub depth-is : m .depth ≡ depth g ls
 
-unfoldable pub pressuresIn : End → List ℤ → List ℤ
-pressuresIn (solved r ps) old = ps
-pressuresIn (failed r) old = old
-
-pub record RunAsked (g : Sides) (ls : List ℕ) (vs : List ℤ) (t : Settings) (plan : Plan) (bytes words : List ℕ) (floats pressures : ℕ) : Type 0 where
+pub record RunAsked (g : Sides) (ls : List ℕ) (vs : List ℤ) (t : Settings) (m : Measured) (plan : Plan) (bytes words : List ℕ) (floats pressures : ℕ) : Type 0 where
+  pub of-cast : OfCast g ls m
   pub ready : Ready g ls vs t plan bytes words floats
   pub pressed : pressures ≡ cells g
 
-abbrev pub endFrom : Cast → Settings → ℕ → End
-endFrom k t depth = Rounds.run k t (interior (k .sides) (k .labels)) depth (t .rounds) (start k)
-
-pub record Ran (k : Cast) (t : Settings) (depth : ℕ) (ps : List ℤ) (r : Answer) (qs : List ℤ) : Type 0 where
-  pub answer : r ≡ answerIn (endFrom k t depth)
-  pub pressures : qs ≡ pressuresIn (endFrom k t depth) ps
+pub record Ran (k : Cast) (t : Settings) (ps : List ℤ) (r : Answer) (qs : List ℤ) : Type 0 where
+  pub answer : r ≡ answerOf k (ending k t)
+  pub pressures : qs ≡ pressuresOf ps (ending k t)
 
 -- ---- all past check 6
 pub record Checked (g : Sides) (ls : List ℕ) (vs : List ℤ) (t : Settings) (pressures bytes floats words : ℕ) : Type 0 where

@@ -2,10 +2,10 @@
 ghost use mathlib.Core.Path.{_≡_};
 ghost use Prim.Native.Nat.{_≤_};
 ghost use lib.ListN.{length};
-ghost use Rattle.method.specs.Cast.{cells};
+ghost use Rattle.method.specs.Cast.{cells, isAir, isAt, first};
 ghost use Rattle.method.specs.Answers.{verdict};
 ghost use Rattle.method.specs.Calls.{checksBefore7};
-ghost use Rattle.theory.proofs.Sides.{Fit};
+ghost use Rattle.theory.specs.Sides.{Fit};
 ghost use Rattle.checks.specs.Rulings.{rulingOf};
 ghost use Rattle.solve.specs.Solve.{asked, lengthsBy, contentRuling};
 use checks::Ruling;
@@ -15,9 +15,13 @@ use checks::cast::sides_fit;
 use checks::rule::earlier;
 use checks::rule::fault_unless;
 use checks::rule::ruled;
+use grid::near::label_at;
 use grid::place::cell_count;
 use method::Settings;
 use method::Sides;
+use rooms::byte_need;
+use rooms::float_need;
+use rooms::word_need;
 
 // Check 2: labels, values and pressures have one element a cell, and no room is short.
 fn lengths_fit(
@@ -41,13 +45,34 @@ fn lengths_fit(
     if pressures != n {
         return false;
     }
-    if bytes < 2 * n + 16 {
+    if bytes < byte_need(n) {
         return false;
     }
-    if floats < 8 * n + 64 {
+    if floats < float_need(n) {
         return false;
     }
-    2 * n <= words
+    word_need(n) <= words
+}
+
+// Whether a cell is air.
+fn is_air(labels: &[u8], c: usize) -> bool
+    ensures { λ r. ⌜ r ≡ isAir (now (labels .entry)) c ⌝ }
+{
+    label_at(labels, c) == 0
+}
+
+// Whether some cell is air: check 6, left at the first.
+fn has_air(labels: &[u8]) -> bool
+    ensures { λ r. ⌜ r ≡ isAt (first (isAir (now (labels .entry))) (length (now (labels .entry)))) ⌝ }
+{
+    let mut c = 0;
+    while c < labels.len() {
+        if is_air(labels, c) {
+            return true;
+        }
+        c += 1;
+    }
+    false
 }
 
 // Checks 3 to 6, of a cast with a label and a value for each of its n cells.
@@ -64,7 +89,7 @@ fn judge_content(
 {
     let third = ruled(3, fault_unless(settings_fit(settings)));
     let cells = judge_cells(labels, values, n);
-    let sixth = ruled(6, fault_unless(0 < grid::interior::interior(labels, sides)));
+    let sixth = ruled(6, fault_unless(has_air(labels)));
     earlier(third, earlier(cells, sixth))
 }
 

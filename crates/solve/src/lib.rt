@@ -1,5 +1,4 @@
 // The solver's entry point (document 01, "What comes back"): refusals in their order, then three parts: prepare, run, clear.
-pub mod clear;
 mod judge;
 pub mod prepare;
 
@@ -9,15 +8,19 @@ ghost use lib.ListN.{length};
 ghost use Rattle.rounds.specs.Rounds.{castOf};
 ghost use Rattle.solve.specs.Solve.{asked, SolveOf};
 ghost use Rattle.solve.specs.Work.{Checked, Worked, RunAsked, Ran};
+use answers::Ended;
+use answers::Measured;
+use answers::accepted;
+use answers::refusal;
+use answers::unfinished;
 use checks::Ruling;
-use checks::rule::refusal;
-use clear::clear;
 use judge::judge;
 use method::Answer;
 use method::Found;
 use method::Settings;
 use method::Sides;
 use prepare::prepare;
+use rooms::clear;
 use rounds::Plan;
 
 // One set of values on a prepared cast: the rounds, and the pressures where they are accepted. Labels and lists stay.
@@ -26,34 +29,25 @@ pub fn run(
     labels: &[u8],
     values: &[i32],
     settings: Settings,
-    depth: u32,
+    of: Measured,
     plan: Plan,
     bytes: &[u8],
     words: &[u32],
     floats: &mut [f64],
     pressures: &mut [i64],
 ) -> Answer
-    requires { ⌜ RunAsked sides (now labels) (now values) settings plan (now bytes) (now words) (length (now floats)) (length (now pressures)) ⌝ }
-    ensures { λ r. ⌜ Ran (castOf sides (now (labels .entry)) (now (values .entry))) settings depth (now (pressures .entry)) r (now (pressures .exit)) ⌝ }
+    requires { ⌜ RunAsked sides (now labels) (now values) settings of plan (now bytes) (now words) (length (now floats)) (length (now pressures)) ⌝ }
+    ensures { λ r. ⌜ Ran (castOf sides (now (labels .entry)) (now (values .entry))) settings (now (pressures .entry)) r (now (pressures .exit)) ⌝ }
 {
-    let interior = grid::interior::interior(labels, sides);
-    let answer = rounds::run(
-        floats,
-        bytes,
-        words,
-        plan,
-        labels,
-        values,
-        settings,
-        sides,
-        interior,
-        depth,
-    );
-    if answer.number == 0 {
-        let n = labels.len();
-        trial::write_ticks(pressures, sides, labels, values, &floats[0..n]);
+    match rounds::run(floats, bytes, words, plan, labels, values, settings, sides) {
+        Ended::Accepted(rounds, worst) => {
+            let n = labels.len();
+            trial::write_ticks(pressures, sides, labels, values, &floats[0..n]);
+            let at = worst::worst_of(sides, labels, values, &floats[0..n], worst);
+            accepted(rounds, worst, at, of)
+        }
+        Ended::Unfinished(number, rounds) => unfinished(number, rounds, of),
     }
-    answer
 }
 
 // Past check 6, in rooms of just the size needed: the distances, check 7, and then what is prepared is run.
@@ -71,18 +65,21 @@ fn work(
     ensures { λ r. ⌜ Worked (castOf sides (now (labels .entry)) (now (values .entry))) settings (now (pressures .entry)) r (now (pressures .exit)) ⌝ }
 {
     let walked = walks::distances(words, labels, sides);
-    let depth = walked.depth;
     let sealed = walked.sealed;
     match sealed {
         Found::At(place) => refusal(7, place),
         Found::Nowhere => {
+            let of = Measured {
+                interior: grid::interior::interior(labels, sides),
+                depth: walked.depth,
+            };
             let plan = prepare(sides, labels, settings.levels, bytes, words);
             run(
                 sides,
                 labels,
                 values,
                 settings,
-                depth,
+                of,
                 plan,
                 &bytes[..],
                 &words[..],

@@ -18,7 +18,7 @@ pub fn prepare(
     let count = levels as usize;
     let l = levels::sides::levels_of(sides);
     levels::labels::all_labels(bytes, labels, l, count);
-    let lists = levels::lists::all_lists(words, &bytes[..], l, count);
+    let lists = bands::lists::all_lists(words, &bytes[..], l, count);
     Plan {
         levels: l,
         lists,

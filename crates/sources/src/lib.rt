@@ -5,7 +5,7 @@ ghost use lib.IntN.{natAbs};
 ghost use lib.ListN.{length};
 ghost use Rattle.laws.specs.Binary64.{ofℤ};
 ghost use Rattle.method.specs.Cast.{cells};
-ghost use Rattle.theory.proofs.Sides.{Fit};
+ghost use Rattle.theory.specs.Sides.{Fit};
 ghost use Rattle.sources.specs.Sources.{Levelled, wholeSide, WholeSide};
 
 // The sum with cell j's level, where it is an opening.

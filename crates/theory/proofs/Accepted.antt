@@ -15,8 +15,8 @@ use Rattle.method.specs.declared.Found.{Found}
 use Rattle.method.specs.declared.Found.the-variants.{Nowhere, At}
 use Rattle.method.specs.Cast.{cells, labelAt, isAir, judged, field, residual, worst, interior, depth, isAt, stepsOf, walk, sealed, sidesFit}
 use Rattle.method.specs.Answers.{accepted, refusal, unfinished, byteNeed, floatNeed, wordNeed}
-use Rattle.method.specs.Rounds.{State, rounded, passes}
-use Rattle.method.specs.Calls.{Asked, size, Solved, lengthsFit, checksBefore7, untouched, handedBack, solving}
+use Rattle.method.specs.Rounds.{State, rounded, passes, pass, fail}
+use Rattle.method.specs.Calls.{Asked, size, Solved, lengthsFit, checksBefore7, untouched, handedBack, answerOf, solving}
 use Rattle.theory.specs.Walks.{Walk}
 use Rattle.theory.specs.Answered.{label, left, Away, Accepted, CutOff}
 use Rattle.theory.proofs.Verdicts.{AllPass, no-fault, no-fault′}
@@ -25,6 +25,7 @@ use Rattle.theory.proofs.Counting.{some-counted}
 use Rattle.theory.proofs.Greatest.{greatest-all, greatest-attained}
 use Rattle.theory.proofs.Firsts.{FirstAt, Search, found, none, search-first}
 use Rattle.theory.proofs.Pressures.{length-rounded, openings-rounded, walls-rounded, worst-passes, air-rounded}
+use Rattle.theory.proofs.Worst.{where-worst}
 use Rattle.theory.proofs.Outcome.{Outcome, early, cut-off, unended, right, outcome}
 
 -- ---- what the checks before 7 say
@@ -94,18 +95,23 @@ module _ (a : Asked) (ok : AllPass checksBefore7 a) where
 
 -- ---- a state that passes the test
 made : (a : Asked) (st : State) → passes (a .cast) (a .settings) (st .x) ≡ true → AllPass checksBefore7 a → sealed (a .cast .sides) (a .cast .labels) ≡ Nowhere
-    → Accepted a (handedBack a (accepted (st .rounds) (worst (a .cast) (rounded (a .cast) (st .x))) (interior (a .cast .sides) (a .cast .labels)) (depth (a .cast .sides) (a .cast .labels))) (rounded (a .cast) (st .x)))
-unfolding handedBack accepted worst depth judged stepsOf
+    → Accepted a (handedBack a (answerOf (a .cast) (pass (a .cast) (a .settings) st)) (rounded (a .cast) (st .x)))
+unfolding handedBack answerOf pass accepted worst depth judged stepsOf
 made a st t p q =
     let some = some-air a p in
     let size-at : ℕ → ℕ = λ c. natAbs (left a (rounded (a .cast) (st .x)) c) in
     let steps-at : ℕ → ℕ = λ c. stepsOf (getD (walk (a .cast .sides) (a .cast .labels)) c Nowhere) in
     let top = greatest-attained (isAir (a .cast .labels)) size-at (size a) (some .0) (some .1) (some .2) in
+    let there = where-worst (a .cast) (rounded (a .cast) (st .x)) (some .0) (some .1) (some .2) in
     let deep = greatest-attained (isAir (a .cast .labels)) steps-at (size a) (some .0) (some .1) (some .2) in
     record {
       worst-all = λ c e. greatest-all (isAir (a .cast .labels)) size-at (size a) c (in-box (size a) (a .cast .labels) (sized a p) c (omega arith)) (air-test (a .cast .labels) c e);
       worst-one = (top .0, test-air (a .cast .labels) (top .0) (top .2), top .3);
       worst-fits = worst-passes (a .cast) (st .x) (sized a p) (a .settings) t;
+      worst-cell = there .air;
+      worst-value = there .value;
+      worst-size = there .size;
+      worst-first = there .before;
       interior-is = refl;
       depth-all = λ c e. let w = reaching a p q c e in
           (w .0, w .2, le-trans (le-of-eq (sym (ap stepsOf (w .1)))) (greatest-all (isAir (a .cast .labels)) steps-at (size a) c (in-box (size a) (a .cast .labels) (sized a p) c (omega arith)) (air-test (a .cast .labels) c e)));
@@ -127,10 +133,10 @@ pub record Came (a : Asked) : Type 0 where
   pub passing : passes (a .cast) (a .settings) (st .x) ≡ true
   pub checked : AllPass checksBefore7 a
   pub none-sealed : sealed (a .cast .sides) (a .cast .labels) ≡ Nowhere
-  pub result : solving a ≡ handedBack a (accepted (st .rounds) (worst (a .cast) (rounded (a .cast) (st .x))) (interior (a .cast .sides) (a .cast .labels)) (depth (a .cast .sides) (a .cast .labels))) (rounded (a .cast) (st .x))
+  pub result : solving a ≡ handedBack a (answerOf (a .cast) (pass (a .cast) (a .settings) st)) (rounded (a .cast) (st .x))
 
 pub came-about : (a : Asked) → solving a .answer .number ≡ 0 → Came a
-unfolding untouched handedBack refusal unfinished number
+unfolding untouched handedBack answerOf fail refusal unfinished number
 came-about a z = go (outcome a)
   where
     go : Outcome a → Came a
@@ -145,7 +151,7 @@ accepted-is a z = let r = came-about a z in subst (Accepted a) (sym (r .result))
 
 -- the place of answer 7
 pub answer-7-is : (a : Asked) → solving a .answer .number ≡ 7 → CutOff a (solving a .answer .place)
-unfolding untouched handedBack refusal unfinished accepted number
+unfolding untouched handedBack answerOf pass fail refusal unfinished accepted number
 answer-7-is a z = go (outcome a)
   where
     go : Outcome a → CutOff a (solving a .answer .place)

@@ -14,7 +14,7 @@ use Rattle.method.specs.Cast.{Axis, axes, along, cells, isAir, isOpening, label
 use Rattle.method.specs.Levels.{halved, halvings, Drawn, placed, joined, choice, choices, children, coarseLabel, coarse, givenTo, hasOther, inBand}
 use Rattle.laws.proofs.Bools.{is-true, and-l, so}
 use Rattle.laws.proofs.Lists.{getD-tab, some-of, some-in}
-use Rattle.theory.proofs.Sides.{x-axis, y-axis, z-axis}
+use Rattle.theory.specs.Sides.{x-axis, y-axis, z-axis}
 use Rattle.theory.proofs.Reach.{air-test, test-air, opening-test, in-box}
 use Rattle.theory.proofs.Places.{Spot, spot-lt, x-along, y-along, z-along}
 

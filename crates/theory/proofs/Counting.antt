@@ -9,8 +9,8 @@ use native.Mathlib.Omega.{arith}
 use lib.Dec.{T}
 use Rattle.laws.specs.Loops.{up}
 use Rattle.laws.specs.Lists.{over}
-use Rattle.theory.proofs.Region.{total, total-le, keepN}
-use Rattle.theory.proofs.Hits.{one-if}
+use Rattle.theory.specs.Totals.{total, one-if}
+use Rattle.theory.proofs.Region.{total-le, keepN}
 
 pub count-le : (n : ℕ) (p : ℕ → Bool) → total n (λ i. one-if (p i)) ≤ n
 unfolding total

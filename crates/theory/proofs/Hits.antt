@@ -14,11 +14,8 @@ use Rattle.laws.specs.Whole.{_+ᶻ_, _*ᶻ_}
 use Rattle.laws.proofs.Zed.{at, lin, z-eq}
 use Rattle.laws.proofs.Sums.{sum, sum-cong, sum-zero}
 use Rattle.laws.proofs.Bools.{split}
+use Rattle.theory.specs.Totals.{one-if}
 use Rattle.theory.proofs.Bound.{keep}
-
-abbrev pub one-if : Bool → ℕ
-one-if true = 1
-one-if false = 0
 
 -- 1 where two numbers are equal
 unfoldable pub same : ℕ → ℕ → ℕ

@@ -16,7 +16,8 @@ use Rattle.theory.specs.Levels.{sidesAt, labelsAt, airBefore}
 use Rattle.laws.proofs.Bools.{is-true}
 use Rattle.laws.proofs.Lists.{length-tab}
 use Rattle.theory.proofs.Counting.{over-more, counted-lt}
-use Rattle.theory.proofs.Sides.{Fit, fit}
+use Rattle.theory.specs.Sides.{Fit}
+use Rattle.theory.proofs.Sides.{fit}
 use Rattle.theory.proofs.Reach.{clear-test, walk-air, in-box}
 use Rattle.theory.proofs.Sizes.{fit-at, cells-halved, cells-least}
 use Rattle.theory.proofs.Places.{Spot, Step, Face, spot-of, spot-same, beside-near, near-beside}

@@ -16,6 +16,7 @@ pub mod Verdicts
 pub mod Ends
 pub mod Pressures
 pub mod Firsts
+pub mod Worst
 pub mod Outcome
 pub mod Accepted
 pub mod Question3

@@ -14,7 +14,8 @@ use Rattle.method.specs.Cast.{Axis, cells, axes, along, back, on, beside, aroun
 use Rattle.theory.specs.Walks.{Beside}
 use Rattle.laws.proofs.Naturals.{le-or-lt}
 use Rattle.theory.proofs.Hits.{same, same-yes, same-no, hits, mem-hits, hits-mem}
-use Rattle.theory.proofs.Sides.{fit, x-axis, y-axis, z-axis}
+use Rattle.theory.specs.Sides.{x-axis, y-axis, z-axis}
+use Rattle.theory.proofs.Sides.{fit}
 
 -- ---- one axis: a step back and a step on, where there is one
 pub back-yes : (n : ℕ) (a : Axis) (c : ℕ) → 0 < along a c → back n a c ≡ c - a .stride

@@ -5,7 +5,7 @@ use native.Mathlib.Nat.{mod-lt, mod-eq-of-lt, div-eq-of-lt, div-one, div-div-eq-
 use native.Mathlib.Omega.{arith}
 use Rattle.method.specs.declared.Sides.{Sides}
 use Rattle.method.specs.Cast.{cells, number, along}
-use Rattle.theory.proofs.Sides.{x-axis, y-axis, z-axis}
+use Rattle.theory.specs.Sides.{x-axis, y-axis, z-axis}
 
 -- digits: a place below m, and m to each of the places above it
 below : (m i q h : ℕ) → i < m → q < h → i + m * q < m * h

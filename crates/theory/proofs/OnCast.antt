@@ -16,8 +16,9 @@ use Rattle.method.specs.Cast.{Cast, cells, labelAt, isAir, isOpening, noWall, a
 use Rattle.theory.specs.Walks.{Beside, Walk, last, step}
 use Rattle.theory.specs.Exact.{Solves, bound}
 use Rattle.theory.proofs.Bound.{lap, Way, leave, step as onward}
-use Rattle.theory.proofs.Region.{resid, worth, total, total-cong, keepN, region-bound, region-bound-WN}
-use Rattle.theory.proofs.Hits.{one-if, hits, mem-hits, hits-mem}
+use Rattle.theory.specs.Totals.{total, one-if}
+use Rattle.theory.proofs.Region.{resid, worth, total-cong, keepN, region-bound, region-bound-WN}
+use Rattle.theory.proofs.Hits.{hits, mem-hits, hits-mem}
 use Rattle.theory.proofs.Neighbours.{around-sym}
 use Rattle.theory.proofs.Residual.{link, residual-is}
 use Rattle.theory.proofs.Reach.{air-test, test-air, clear-test, walk-air, in-box}

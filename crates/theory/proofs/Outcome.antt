@@ -5,10 +5,10 @@ use mathlib.Core.Bool.{true}
 use native.Mathlib.Omega.{arith}
 use Rattle.method.specs.declared.Found.{Found}
 use Rattle.method.specs.declared.Found.the-variants.{Nowhere, At}
-use Rattle.method.specs.Cast.{worst, interior, depth, sealed}
-use Rattle.method.specs.Answers.{accepted, refusal, unfinished, Verdict, passed, refused, verdict}
+use Rattle.method.specs.Cast.{sealed}
+use Rattle.method.specs.Answers.{refusal, Verdict, passed, refused, verdict}
 use Rattle.method.specs.Rounds.{State, rounded, passes, pass, fail, ending}
-use Rattle.method.specs.Calls.{Asked, Solved, checksBefore7, checksFrom7, untouched, handedBack, ended, solving}
+use Rattle.method.specs.Calls.{Asked, Solved, checksBefore7, checksFrom7, untouched, handedBack, answerOf, pressuresOf, ended, solving}
 use Rattle.theory.proofs.Verdicts.{AllPass, Judged, fine, faulty, judge}
 use Rattle.theory.proofs.Ends.{Ended, passing, failing, ending-is}
 
@@ -16,13 +16,13 @@ pub data Outcome (a : Asked) : Type 0 where
   early : (num place : ℕ) → 1 ≤ num → num ≤ 6 → solving a ≡ untouched a (refusal num place) → Outcome a
   cut-off : (place : ℕ) → AllPass checksBefore7 a → sealed (a .cast .sides) (a .cast .labels) ≡ At place → solving a ≡ handedBack a (refusal 7 place) (a .pressures) → Outcome a
   unended : (num : ℕ) (st : State) → 8 ≤ num → num ≤ 9 → AllPass checksBefore7 a → sealed (a .cast .sides) (a .cast .labels) ≡ Nowhere
-      → solving a ≡ handedBack a (unfinished num (st .rounds) (interior (a .cast .sides) (a .cast .labels)) (depth (a .cast .sides) (a .cast .labels))) (a .pressures) → Outcome a
+      → solving a ≡ handedBack a (answerOf (a .cast) (fail (a .cast) (a .settings) num st)) (a .pressures) → Outcome a
   right : (st : State) → passes (a .cast) (a .settings) (st .x) ≡ true → AllPass checksBefore7 a → sealed (a .cast .sides) (a .cast .labels) ≡ Nowhere
-      → solving a ≡ handedBack a (accepted (st .rounds) (worst (a .cast) (rounded (a .cast) (st .x))) (interior (a .cast .sides) (a .cast .labels)) (depth (a .cast .sides) (a .cast .labels))) (rounded (a .cast) (st .x))
+      → solving a ≡ handedBack a (answerOf (a .cast) (pass (a .cast) (a .settings) st)) (rounded (a .cast) (st .x))
       → Outcome a
 
 pub outcome : (a : Asked) → Outcome a
-unfolding solving checksBefore7 checksFrom7 ended pass fail verdict
+unfolding solving checksBefore7 checksFrom7 ended pressuresOf pass fail verdict
 outcome a = go (judge checksBefore7 a) (sealed (a .cast .sides) (a .cast .labels)) refl (ending-is (a .cast) (a .settings))
   where
     seven : Found → Solved
@@ -35,7 +35,7 @@ outcome a = go (judge checksBefore7 a) (sealed (a .cast .sides) (a .cast .labels
     whole v = elim v [ refused num place ↦ untouched a (refusal num place) | passed ↦ seven (sealed (a .cast .sides) (a .cast .labels)) ]
 
     go : Judged checksBefore7 a → (f : Found) → sealed (a .cast .sides) (a .cast .labels) ≡ f
-        → Ended (a .cast) (a .settings) (interior (a .cast .sides) (a .cast .labels)) (depth (a .cast .sides) (a .cast .labels)) (ending (a .cast) (a .settings)) → Outcome a
+        → Ended (a .cast) (a .settings) (ending (a .cast) (a .settings)) → Outcome a
     go (faulty num place v f) g q e = let r = f 1 6 (omega arith) in early num place (r .0) (r .1) (ap whole v)
     go (fine v p) (At place) q e = cut-off place p q (ap whole v ∙ ap seven q)
     go (fine v p) Nowhere q (passing st e t) = right st t p q (ap whole v ∙ ap seven q ∙ ap (ended a) e)

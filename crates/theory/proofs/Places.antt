@@ -10,7 +10,7 @@ use borrow.Author.Tests.{ltb-true, lt-ltb}
 use Rattle.method.specs.declared.Sides.{Sides}
 use Rattle.method.specs.Cast.{Axis, axes, number, along, cells, back, on, beside, around}
 use Rattle.theory.specs.Walks.{Beside}
-use Rattle.theory.proofs.Sides.{x-axis, y-axis, z-axis}
+use Rattle.theory.specs.Sides.{x-axis, y-axis, z-axis}
 use Rattle.theory.proofs.Numbers.{number-in, Coordinates, number-coordinates, coordinates-in, coordinates-number}
 
 -- cell c is the one with the coordinates x, y, z

@@ -19,8 +19,7 @@ use Rattle.method.specs.declared.Found.{Found}
 use Rattle.method.specs.declared.Found.the-variants.{Nowhere, At}
 use Rattle.method.specs.Cast.{cells, labelAt, isAir, isOpening, noWall, around, isAt, nearer, walks, walk}
 use Rattle.theory.specs.Walks.{Beside, Walk, last, step}
-use Rattle.theory.proofs.Region.{total}
-use Rattle.theory.proofs.Hits.{one-if}
+use Rattle.theory.specs.Totals.{total, one-if}
 use Rattle.theory.proofs.Counting.{count-le, agree}
 
 -- ---- labels and tests

@@ -10,13 +10,10 @@ use lib.Signed.{_≤ℤ_}
 use Rattle.laws.specs.Whole.{_-ᶻ_, _*ᶻ_, neg}
 use Rattle.laws.proofs.Zed.{at, lin, z-eq, z-le, abs-neg, abs-times, abs-le}
 use Rattle.laws.proofs.Sums.{sum, sum-cong, sum-neg, sum-sub, sum-scale}
+use Rattle.theory.specs.Totals.{total}
 use Rattle.theory.proofs.Bound.{lap, keep, size, Way, spread, by-way, ≤ℤ-trans}
 
 -- ---- sums of naturals
-unfoldable pub total : ℕ → (ℕ → ℕ) → ℕ
-total zero f = 0
-total (suc n) f = total n f + f n
-
 abbrev pub keepN : Bool → ℕ → ℕ
 keepN true k = k
 keepN false k = 0

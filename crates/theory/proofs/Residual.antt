@@ -17,7 +17,8 @@ use Rattle.method.specs.Cast.{cells, labelAt, noWall, around, degree, sumAround
 use Rattle.laws.proofs.Bools.{split}
 use Rattle.theory.proofs.Bound.{lap, keep}
 use Rattle.theory.proofs.Region.{resid}
-use Rattle.theory.proofs.Hits.{one-if, same, hits, zero-times, sum-delta}
+use Rattle.theory.specs.Totals.{one-if}
+use Rattle.theory.proofs.Hits.{same, hits, zero-times, sum-delta}
 
 -- what the neighbours of a list take from u i, as one sum over the cells
 unfoldable pub taken : ℕ → (ℕ → Bool) → (ℕ → ℤ) → ℕ → List ℕ → ℤ

@@ -1,21 +1,13 @@
--- What it says that the sides fit, and the three axes by name. Assumes nothing.
+-- What it says that the sides fit, in both directions. Assumes nothing.
 use mathlib.Core.Path.{_≡_, sym, ap₂, subst}
 use mathlib.Core.Bool.{true, _&&_}
-use Prim.Native.Nat.{ℕ, _*_, _≤_}
+use Prim.Native.Nat.{ℕ, _≤_}
 use lib.Dec.{T, leb, leb→le}
 use borrow.Author.Tests.{le-leb}
 use Rattle.method.specs.declared.Sides.{Sides}
-use Rattle.method.specs.Cast.{Axis, between, sidesFit}
+use Rattle.method.specs.Cast.{between, sidesFit}
 use Rattle.laws.proofs.Bools.{and-l, and-r}
-
--- each side is 1 to 32
-pub record Fit (s : Sides) : Type 0 where
-  pub nx-one : 1 ≤ s .nx
-  pub nx-32 : s .nx ≤ 32
-  pub ny-one : 1 ≤ s .ny
-  pub ny-32 : s .ny ≤ 32
-  pub nz-one : 1 ≤ s .nz
-  pub nz-32 : s .nz ≤ 32
+use Rattle.theory.specs.Sides.{Fit}
 
 pub from : (lo hi x : ℕ) → T (between lo hi x) → lo ≤ x
 unfolding between
@@ -51,13 +43,3 @@ unfolding sidesFit
 fits s z =
     ap₂ _&&_ (between-in 1 32 (s .nx) (z .nx-one) (z .nx-32))
     (ap₂ _&&_ (between-in 1 32 (s .ny) (z .ny-one) (z .ny-32)) (between-in 1 32 (s .nz) (z .nz-one) (z .nz-32)))
-
--- the axes, by name
-abbrev pub x-axis : Sides → Axis
-x-axis s = record { stride = 1; side = s .nx }
-
-abbrev pub y-axis : Sides → Axis
-y-axis s = record { stride = s .nx; side = s .ny }
-
-abbrev pub z-axis : Sides → Axis
-z-axis s = record { stride = s .nx * s .ny; side = s .nz }

@@ -8,7 +8,8 @@ use Rattle.method.specs.declared.Sides.{Sides}
 use Rattle.method.specs.Cast.{cells, sidesFit}
 use Rattle.method.specs.Levels.{half, halved}
 use Rattle.theory.specs.Levels.{sidesAt, cellsBefore}
-use Rattle.theory.proofs.Sides.{Fit, fit, fits}
+use Rattle.theory.specs.Sides.{Fit}
+use Rattle.theory.proofs.Sides.{fit, fits}
 
 pub halved-fit : (s : Sides) → Fit s → Fit (halved s)
 unfolding halved half

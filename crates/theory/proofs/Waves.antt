@@ -20,7 +20,7 @@ use Rattle.method.specs.Cycle.{relaxed}
 use Rattle.theory.specs.Walks.{Beside}
 use Rattle.theory.specs.Waves.{strung, onWave, waveCell, waveLine, waveOf, waves}
 use Rattle.theory.proofs.Hits.{same-yes, same-no, hits}
-use Rattle.theory.proofs.Sides.{x-axis, y-axis, z-axis}
+use Rattle.theory.specs.Sides.{x-axis, y-axis, z-axis}
 use Rattle.theory.proofs.Places.{Spot, spot-of, spot-lt, x-along, y-along, z-along, Face, beside-near}
 use Rattle.theory.proofs.Orders.{hits-append, hits-at, Sorted, sorted-append, Orders, up-order, down-order, same-length}
 use Rattle.theory.proofs.Relaxed.{relaxed-swap}

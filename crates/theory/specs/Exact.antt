@@ -4,7 +4,7 @@ use mathlib.Core.Path.{_≡_}
 use lib.IntN.{ℤ, pos, natAbs}
 use Rattle.laws.specs.Whole.{_-ᶻ_, _*ᶻ_}
 use Rattle.method.specs.Cast.{Cast, labelAt, field, residual}
-use Rattle.method.specs.Calls.{Asked, solving}
+use Rattle.method.specs.Calls.{Asked, solvedCast, solving}
 
 -- y equals m·level at every opening, and at every air cell m·source + (the sum of y over the non-wall neighbours) - d·y is 0
 pub record Solves (k : Cast) (m : ℕ) (y : ℕ → ℤ) : Type 0 where
@@ -19,5 +19,5 @@ bound m worst interior depth = m * worst * interior * depth
 -- the answer's worst, interior and depth
 abbrev pub Bounds : (ℕ → ℕ → ℕ → ℕ → ℕ) → Type 0
 Bounds f =
-    (a : Asked) → solving a .answer .number ≡ 0 → (m : ℕ) → 1 ≤ m → (y : ℕ → ℤ) → Solves (a .cast) m y → (c : ℕ) → labelAt (a .cast .labels) c ≡ 0
+    (a : Asked) → solving a .answer .number ≡ 0 → (m : ℕ) → 1 ≤ m → (y : ℕ → ℤ) → Solves (solvedCast a) m y → (c : ℕ) → labelAt (solvedCast a .labels) c ≡ 0
     → natAbs (pos m *ᶻ field (solving a .pressures) c -ᶻ y c) ≤ f m (solving a .answer .worst) (solving a .answer .interior) (solving a .answer .depth)

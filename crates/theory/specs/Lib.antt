@@ -1,4 +1,6 @@
 -- What the theorems are about.
+pub mod Sides
+pub mod Totals
 pub mod Walks
 pub mod Exact
 pub mod Answered

@@ -1,7 +1,7 @@
 -- The whole number nearest to a number: its whole part, or one more, by how the number lies to its whole part and a half. Assumes nothing.
 use Prim.Native.Nat.{ℕ, _+_, _*_, _/_, _%_, _^_, _≤_, _<_}
 use mathlib.Core.Path.{_≡_, refl, sym, ap, subst, _∙_}
-use mathlib.Core.Bool.{Bool, true, false, cond}
+use mathlib.Core.Bool.{Bool, true, false, _||_, cond}
 use native.Mathlib.Nat.{mul-lt-mul-of-pos-right, lt-of-lt-of-le, min-eq-left, add-mul, mul-assoc, mul-right-comm, mul-one, lt-of-mul-lt-mul-right, le-of-mul-le-mul-right, div-add-mod', div-lt-iff-lt-mul, le-div-iff-mul-le}
 use native.Mathlib.Omega.{arith}
 use borrow.Author.Needs.{needs}
@@ -192,7 +192,13 @@ located (fin false m e) q a b c = go (mid q) (mid-value q (let s : q < 2 ^ 42 = 
       half = at-tie q m e b c n d v;
     }
 
--- ---- what the needs of `rounded` ask
+-- ---- what the needs of `raised` and `rounded` ask
+pub raised-up : (b : Bool) (q : ℕ) → b ≡ true → q + 1 ≡ cond b (q + 1) q
+raised-up b q e = rw e
+
+pub raised-not : (b : Bool) (q : ℕ) → b ≡ false → q ≡ cond b (q + 1) q
+raised-not b q e = rw e
+
 module _ (y : Float) (q : ℕ) (a : lt +0 y ≡ true) (b : lt y beyond ≡ true) (c : q ≡ toUnsigned 64 y) where
   pub near-small : q ≤ 2 ^ 42
   near-small = let s : q < 2 ^ 42 = located y q a b c .small in omega arith
@@ -212,6 +218,23 @@ module _ (y : Float) (q : ℕ) (a : lt +0 y ≡ true) (b : lt y beyond ≡ true)
 
   pub near-tie : (r : ℕ) → r ≡ tie q → lt y (mid q) ≡ false → lt (mid q) y ≡ false → r ≡ size y
   near-tie r e h k = e ∙ located y q a b c .half h k
+
+  -- either below or above, and which of them; or neither
+  pub near-raised : (e : Bool) (r : ℕ) → e ≡ (lt y (mid q) || lt (mid q) y) → e ≡ true → r ≡ cond (lt (mid q) y) (q + 1) q → r ≡ size y
+  near-raised e r f t h = h ∙ go (lt (mid q) y) refl (lt y (mid q)) refl (sym f ∙ t)
+    where
+      go : (j : Bool) → lt (mid q) y ≡ j → (i : Bool) → lt y (mid q) ≡ i → (i || j) ≡ true → cond j (q + 1) q ≡ size y
+      go true k i l o = near-high k
+      go false k true l o = near-low l
+      go false k false l o = no o
+
+  pub near-neither : (e : Bool) (r : ℕ) → e ≡ (lt y (mid q) || lt (mid q) y) → e ≡ false → r ≡ tie q → r ≡ size y
+  near-neither e r f t h = go (lt y (mid q)) refl (lt (mid q) y) refl (sym f ∙ t)
+    where
+      go : (i : Bool) → lt y (mid q) ≡ i → (j : Bool) → lt (mid q) y ≡ j → (i || j) ≡ false → r ≡ size y
+      go false l false k o = near-tie r h l k
+      go false l true k o = no (sym o)
+      go true l j k o = no (sym o)
 
 -- the ends that the cut to a whole number asks
 pub above-one : (y : Float) → lt +0 y ≡ true → T (lt (fin true 1 (pos 0)) y)
@@ -242,4 +265,4 @@ far (fin false m e) a b =
     let k : 2 ^ 42 ≤ m * up e / down e = le-div-iff-mul-le (down-pos e) .1 (omega arith) in
     omega (arith, nearest-ge (m * up e) (down e))
 
-pub ruleset nears = (needs, near-small, near-fits, near-float, near-low, near-high, near-tie, above-one, below-64, far)
+pub ruleset nears = (needs, near-small, near-fits, near-float, near-raised, near-neither, above-one, below-64, far)

@@ -1,7 +1,7 @@
 // A binary64 to the nearest whole tick, halves to the even tick, and a tick as a binary64.
 ghost use mathlib.Core.Path.{_≡_};
-ghost use mathlib.Core.Bool.{true, false};
-ghost use Prim.Native.Nat.{_^_, _≤_};
+ghost use mathlib.Core.Bool.{true, false, _||_, cond};
+ghost use Prim.Native.Nat.{_+_, _^_, _≤_};
 ghost use lib.IntN.{natAbs};
 ghost use lib.Ieee.{lt};
 ghost use Rattle.laws.specs.Binary64.{+0, ofℤ};
@@ -19,7 +19,23 @@ fn tie_of(low: u64) -> u64
     if low % 2 == 0 { low } else { low + 1 }
 }
 
-// The whole number nearest to y, which is above zero and below 2^42: y lies below, above or at its whole part and a half.
+// Whether one of two tests passes.
+fn either(a: bool, b: bool) -> bool
+    ensures { λ r. ⌜ r ≡ (a || b) ⌝ }
+{
+    if a { true } else { b }
+}
+
+// The next number where the test passes: a choice between two numbers, and no branch.
+fn raised(low: u64, up: bool) -> u64
+    requires { ⌜ low ≤ 2 ^ 42 ⌝ }
+    ensures { λ r. ⌜ r ≡ cond up (low + 1) low ⌝ }
+{
+    if up { low + 1 } else { low }
+}
+
+// The whole number nearest to y, which is above zero and below 2^42: y lies below, above or at its whole part and a half. Below and above are
+// as likely, so the one branch is for what lies on it.
 fn rounded(y: f64) -> u64
     requires { ⌜ lt +0 y ≡ true ⌝ }
     requires { ⌜ lt y beyond ≡ true ⌝ }
@@ -27,11 +43,9 @@ fn rounded(y: f64) -> u64
 {
     let q = std::num::truncating_f64_to_u64(y);
     let half = (q as f64) + 0.5;
-    if y < half {
-        return q;
-    }
-    if half < y {
-        return q + 1;
+    let above = half < y;
+    if either(y < half, above) {
+        return raised(q, above);
     }
     tie_of(q)
 }

@@ -19,7 +19,7 @@ use Rattle.method.specs.declared.Sides.{Sides}
 use Rattle.method.specs.Cast.{cells, number, along, labelAt, isAir}
 use Rattle.method.specs.Levels.{halved, axisWeight, value, drawnBy, givenTo, weighted}
 use Rattle.theory.specs.Quiet.{Quiet}
-use Rattle.theory.proofs.Sides.{x-axis, y-axis, z-axis}
+use Rattle.theory.specs.Sides.{x-axis, y-axis, z-axis}
 use Rattle.theory.proofs.Numbers.{number-in, coordinates-in}
 use Rattle.grid.specs.declared.place.Spot.{Spot}
 use Rattle.grid.specs.Place.{SpotOf, inBox, placeAt}

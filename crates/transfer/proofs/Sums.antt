@@ -16,7 +16,7 @@ use Rattle.laws.proofs.Loops.{ups}
 use Rattle.method.specs.declared.Sides.{Sides}
 use Rattle.method.specs.Cast.{cells, number, along}
 use Rattle.method.specs.Levels.{half, halved}
-use Rattle.theory.proofs.Sides.{Fit, x-axis, y-axis, z-axis}
+use Rattle.theory.specs.Sides.{Fit, x-axis, y-axis, z-axis}
 use Rattle.theory.proofs.Sizes.{halved-fit}
 use Rattle.theory.proofs.Numbers.{Coordinates, number-coordinates}
 use Rattle.grid.proofs.Laws.{small-two}

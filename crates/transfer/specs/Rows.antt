@@ -12,7 +12,7 @@ use Rattle.laws.specs.Binary64.{_⊕_, _⊗_, _⊘_, +0, ofℕ}
 use Rattle.method.specs.declared.Sides.{Sides}
 use Rattle.method.specs.Cast.{cells, along}
 use Rattle.method.specs.Levels.{halved, value, restrictionOver, prolongationOver}
-use Rattle.theory.proofs.Sides.{Fit, x-axis, y-axis, z-axis}
+use Rattle.theory.specs.Sides.{Fit, x-axis, y-axis, z-axis}
 use Rattle.grid.specs.Place.{inBox, placeAt}
 use Rattle.transfer.specs.Transfer.{weightOf}
 

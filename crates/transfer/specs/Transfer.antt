@@ -9,7 +9,7 @@ use Rattle.method.specs.declared.Sides.{Sides}
 use Rattle.method.specs.Cast.{cells}
 use Rattle.method.specs.Levels.{halved, coarse, axisWeight, givenTo, weighted, restricted}
 use Rattle.method.specs.Cycle.{corrected}
-use Rattle.theory.proofs.Sides.{Fit}
+use Rattle.theory.specs.Sides.{Fit}
 
 -- a level and the next: their sides, and their labels
 pub record TwoLevels (g h : Sides) (ls lc : List ℕ) : Type 0 where

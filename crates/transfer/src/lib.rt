@@ -1,5 +1,3 @@
-// The transfers between two levels in binary64, each operation rounded once, bit for bit as the method defines them.
-pub mod prolongation;
-pub mod restriction;
-mod rows;
-mod weights;
+// What the transfers between two levels in binary64 share: a row of sums, and the weights; and the laws of both.
+pub mod rows;
+pub mod weights;

@@ -6,7 +6,7 @@ ghost use Rattle.laws.specs.Binary64.{+0};
 ghost use Rattle.transfer.specs.Rows.{Stretch, rowTerm};
 
 // The sum a with the row's cell p, counted from one, where it is in the row.
-pub(crate) fn add_cell(row: &[f64], p: usize, w: f64, a: f64) -> f64
+pub fn add_cell(row: &[f64], p: usize, w: f64, a: f64) -> f64
     ensures { λ r. ⌜ r ≡ rowTerm (now (row .entry)) p w a ⌝ }
 {
     if p == 0 {
@@ -20,7 +20,7 @@ pub(crate) fn add_cell(row: &[f64], p: usize, w: f64, a: f64) -> f64
 }
 
 // The m sums at o start at +0.0.
-pub(crate) fn clear_row(room: &mut [f64], o: usize, m: usize)
+pub fn clear_row(room: &mut [f64], o: usize, m: usize)
     requires { ⌜ o + m ≤ length (now room) ⌝ }
     ensures { λ _. ⌜ Stretch (λ i. +0) o m (now (room .entry)) (now (room .exit)) ⌝ }
 {

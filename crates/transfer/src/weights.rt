@@ -25,7 +25,7 @@ fn product(i: usize, j: usize, k: usize) -> u32
 }
 
 // The same as a binary64.
-pub(crate) fn weight(i: usize, j: usize, k: usize) -> f64
+pub fn weight(i: usize, j: usize, k: usize) -> f64
     requires { ⌜ (i < 4) × ((j < 4) × (k < 4)) ⌝ }
     ensures { λ r. ⌜ r ≡ ofℕ (weightOf i j k) ⌝ }
 {

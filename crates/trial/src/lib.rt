@@ -69,7 +69,7 @@ fn gather(g: Sides, labels: &[u8], values: &[i32], x: &[f64], c: usize) -> Faces
 }
 
 // The exact residual at the air cell c.
-fn residual_at(g: Sides, labels: &[u8], values: &[i32], x: &[f64], c: usize) -> i64
+pub fn residual_at(g: Sides, labels: &[u8], values: &[i32], x: &[f64], c: usize) -> i64
     requires { ⌜ Asked g (now labels) (now values) (now x) × ((c < cells g) × (0 ≡ labelAt (now labels) c)) ⌝ }
     ensures { λ r. ⌜ Residual g (now (labels .entry)) (now (values .entry)) (roundedOn g (now (labels .entry)) (now (values .entry)) (now (x .entry))) c r ⌝ }
 {

@@ -19,9 +19,11 @@ use Rattle.laws.proofs.Lists.{getD-any}
 use Rattle.laws.proofs.Loops.{Up, up-none, up-more, up-end}
 use Rattle.method.specs.declared.Sides.{Sides}
 use Rattle.method.specs.Cast.{Axis, cells, axes, labelAt, isAir, isOpening, back, on, beside, around}
-use Rattle.theory.proofs.Sides.{x-axis, y-axis, z-axis}
+use Rattle.method.specs.Answers as answers
+use Rattle.theory.specs.Sides.{x-axis, y-axis, z-axis}
 use Rattle.theory.proofs.Counting.{count-le}
 use Rattle.theory.proofs.Firsts.{none-none, none-more, none-end, hit}
+use Rattle.rooms.proofs.Clears.{zeroed-is}
 use Rattle.grid.proofs.Steps.{air-yes, air-no, plane-pos, plane-most, plane-fits, cells-most}
 use Rattle.walks.specs.Search.{Queue, queue, mark, entry, reach, reachAll, sideways, turn, start, cleared, started, searched, deeper, lost, Safe, Moved, Reaches, Held, Roomy}
 use Rattle.walks.proofs.SearchSafe.{moved-put, moved-keep, place-in}
@@ -188,21 +190,29 @@ cleared-safe n room few long = record {
   free = omega (arith, count-le n (λ c. eqb (getD (up cleared n room) c 0) 0));
 }
 
-pub cleared-roomy : (s : Sides) (ls room done : List ℕ) → Roomy s ls room → done ≡ up cleared (length ls) room → Safe (length ls) (queue done 0)
-cleared-roomy s ls room done r e = rw e (cleared-safe (length ls) room (omega (arith, r .sized, cells-most s (r .fit))) (omega (arith, r .sized, r .long)))
+-- the loop that clears a room of words clears the marks
+marks-cleared : (s : Sides) (ls room done : List ℕ) → Roomy s ls room → done ≡ answers.cleared (length ls) 0 room → done ≡ up cleared (length ls) room
+marks-cleared s ls room done r e = e ∙ sym (zeroed-is 0 (length ls) room (up cleared (length ls) room) (omega (arith, r .sized, r .long)) refl)
+
+pub marks-room : (s : Sides) (ls room : List ℕ) → Roomy s ls room → length ls ≤ length room
+marks-room s ls room r = omega (arith, r .sized, r .long)
+
+pub cleared-roomy : (s : Sides) (ls room done : List ℕ) → Roomy s ls room → done ≡ answers.cleared (length ls) 0 room → Safe (length ls) (queue done 0)
+cleared-roomy s ls room done r e = rw (marks-cleared s ls room done r e) (cleared-safe (length ls) room (omega (arith, r .sized, cells-most s (r .fit))) (omega (arith, r .sized, r .long)))
 
 pub held-first : (s : Sides) (ls room : List ℕ) (q want got : Queue) → Roomy s ls room → Moved (length ls) q want got → Held s ls got
 held-first s ls room q want got r m = record { fit = r .fit; sized = r .sized; safe = subst (λ n. Safe n got) (r .sized) (m .safe) }
 
-pub searched-is : (s : Sides) (ls room zeros mid end : List ℕ) (t u : ℕ) → length ls ≡ cells s → zeros ≡ up cleared (length ls) room
+pub searched-is : (s : Sides) (ls room zeros mid end : List ℕ) (t u : ℕ) → Roomy s ls room → zeros ≡ answers.cleared (length ls) 0 room
     → Moved (length ls) (queue zeros 0) (up (start (length ls) (isOpening ls)) (length ls) (queue zeros 0)) (queue mid t)
     → queue end u ≡ up (turn (cells s) (isAir ls) (around s)) (cells s) (queue mid t)
     → end ≡ searched s ls room .room
 unfolding searched started
-searched-is s ls room zeros mid end t u e a b d =
-    ap (λ q. q .room) (d ∙ ap (up (turn (cells s) (isAir ls) (around s)) (cells s)) (b .is ∙ ap₂ (λ n z. up (start n (isOpening ls)) n (queue z 0)) e (a ∙ ap (λ n. up cleared n room) e)))
+searched-is s ls room zeros mid end t u r a b d =
+    let e : length ls ≡ cells s = r .sized in
+    ap (λ q. q .room) (d ∙ ap (up (turn (cells s) (isAir ls) (around s)) (cells s)) (b .is ∙ ap₂ (λ n z. up (start n (isOpening ls)) n (queue z 0)) e (marks-cleared s ls room zeros r a ∙ ap (λ n. up cleared n room) e)))
 
-pub ruleset searching = (needs, cleared-roomy, held-first, searched-is)
+pub ruleset searching = (needs, marks-room, cleared-roomy, held-first, searched-is)
 
 -- ---- what the marks give
 module _ (ls room : List ℕ) (c : ℕ) (l : c < length ls) where

@@ -12,8 +12,7 @@ use lib.Dec.{T, eqb, eqb→eq}
 use lib.ListN.{length, getD, set, drop, length-set}
 use lib.Seq.{getD-set-same, getD-set-other, drop-set-lt}
 use borrow.Author.Tests.{eq-eqb, ne-eqb}
-use Rattle.theory.proofs.Region.{total}
-use Rattle.theory.proofs.Hits.{one-if}
+use Rattle.theory.specs.Totals.{total, one-if}
 use Rattle.walks.specs.Search.{Queue, queue, mark, entry, put, reach, Safe, Moved}
 
 -- ---- a sum in which one place changes

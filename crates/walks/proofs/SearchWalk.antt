@@ -18,7 +18,7 @@ use Rattle.method.specs.declared.Found.{Found}
 use Rattle.method.specs.declared.Found.the-variants.{Nowhere, At}
 use Rattle.method.specs.Cast.{cells, isAir, isOpening, around, judged, isAt, nearer, walks, walk, stepsOf, depth, orElse, first, sealed}
 use Rattle.theory.specs.Walks.{Walk, last, step}
-use Rattle.theory.proofs.Sides.{Fit}
+use Rattle.theory.specs.Sides.{Fit}
 use Rattle.theory.proofs.Neighbours.{beside-sym′}
 use Rattle.theory.proofs.Reach.{air-test, test-air, opening-test, test-opening, walk-air, in-box, found-cases, never, same-steps, known, later, least-walk, no-walk}
 use Rattle.grid.proofs.Steps.{cells-most}

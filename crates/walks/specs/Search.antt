@@ -12,9 +12,8 @@ use Rattle.method.specs.declared.Found.{Found}
 use Rattle.method.specs.declared.Found.the-variants.{Nowhere, At}
 use Rattle.method.specs.Cast.{Axis, cells, isAir, isOpening, back, on, around, depth, sealed}
 use Rattle.walks.specs.declared.Walked.{Walked}
-use Rattle.theory.proofs.Sides.{Fit}
-use Rattle.theory.proofs.Region.{total}
-use Rattle.theory.proofs.Hits.{one-if}
+use Rattle.theory.specs.Sides.{Fit}
+use Rattle.theory.specs.Totals.{total, one-if}
 
 -- The marks of the n cells, the queue after them, and the number of cells in the queue.
 pub record Queue : Type 0 where

@@ -8,7 +8,7 @@ ghost use Prim.Native.Nat.{_<_, _≤_};
 ghost use lib.ListN.{length};
 ghost use Rattle.laws.specs.Loops.{up};
 ghost use Rattle.method.specs.Cast.{cells, isAir, isOpening, around, first};
-ghost use Rattle.walks.specs.Search.{queue, reach, reachAll, sideways, turn, start, cleared, searched, deeper, lost, Safe, Moved, Reaches, Held, Roomy, Measured};
+ghost use Rattle.walks.specs.Search.{queue, reach, reachAll, sideways, turn, start, searched, deeper, lost, Safe, Moved, Reaches, Held, Roomy, Measured};
 
 // What the walks of a cast come to.
 pub struct Walked {
@@ -104,18 +104,6 @@ fn flood(room: &mut [u32], labels: &[u8], g: method::Sides, started: usize) -> u
     tail
 }
 
-// No marks.
-fn clear_marks(room: &mut [u32], n: usize)
-    requires { ⌜ n ≤ length (now room) ⌝ }
-    ensures { λ _. ⌜ now (room .exit) ≡ up cleared n (now (room .entry)) ⌝ }
-{
-    let mut i = 0;
-    while i < n {
-        room[i] = 0;
-        i += 1;
-    }
-}
-
 // An opening enters the queue with the mark 1.
 fn start_at(room: &mut [u32], labels: &[u8], i: usize, tail: usize) -> usize
     requires { ⌜ Safe (length (now labels)) (queue (now room) tail) × (i < length (now labels)) ⌝ }
@@ -146,7 +134,7 @@ fn search(room: &mut [u32], labels: &[u8], g: method::Sides)
     requires { ⌜ Roomy g (now labels) (now room) ⌝ }
     ensures { λ _. ⌜ now (room .exit) ≡ searched g (now (labels .entry)) (now (room .entry)) .room ⌝ }
 {
-    clear_marks(room, labels.len());
+    rooms::clear_words(room, labels.len());
     let tail = start_all(room, labels);
     flood(room, labels, g, tail);
 }

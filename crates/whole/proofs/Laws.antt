@@ -39,6 +39,9 @@ product-fits d a h k = size-fits (pos d *ᶻ a) (omega (arith, abs-product d a 6
 pub wide-fits : {z : ℤ} → SFits w32 z → SFits w64 z
 wide-fits f = sfits-widen tt f
 
+pub narrow-fits : (z : ℤ) → natAbs z < 2 ^ 31 → SFits w32 z
+narrow-fits z h = record { sfits = omega (arith, mag-le z) }
+
 -- ---- the machine's operations on bits, as they stand in the needs
 pub unsigned : (d : ℕ) → d ≤ 6 → toZ w64 d ≡ pos d
 unsigned d h = toZ-pos w64 (omega arith)

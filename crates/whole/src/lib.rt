@@ -55,3 +55,11 @@ pub fn size32(a: i32) -> u32
 {
     size(wide(a)) as u32
 }
+
+// A small number as an i32.
+pub fn narrow(a: i64) -> i32
+    requires { ⌜ natAbs a < 2 ^ 31 ⌝ }
+    ensures { λ r. ⌜ r ≡ a ⌝ }
+{
+    a as i32
+}

@@ -2,7 +2,8 @@
 use native.Mathlib.Omega.{arith}
 use borrow.Author.Needs.{needs}
 use Rattle.method.specs.Program.{programRoom}
-use Rattle.airway.proofs.Laws.{part-long, at-limit, program-put}
+use Rattle.respond.proofs.FrontLaws.{part-long, at-limit}
+use Rattle.airway.proofs.Laws.{program-put}
 use Rattle.airway.proofs.answer.Statement.{statement}
 use Rattle.airway.proofs.answer.Tie as tie
 

@@ -22,7 +22,7 @@ use Rattle.cycle.proofs.lower.Reads as lower-reads
 use Rattle.cycle.proofs.upstroke.Reads as upstroke-reads
 use Rattle.levels.proofs.sides.sides_at.Reads as sides-at-reads
 use Rattle.smooth.proofs.clear_u.Reads as clear-u-reads
-use Rattle.transfer.proofs.prolongation.correct.Reads as correct-reads
+use Rattle.prolongation.proofs.correct.Reads as correct-reads
 use Rattle.cycle.proofs.+coarse_correction+cycle.{statement}
 use Rattle.cycle.proofs.+coarse_correction+cycle.Tie.{close}
 

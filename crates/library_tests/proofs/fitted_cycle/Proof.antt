@@ -15,11 +15,8 @@ returns-2 c = search calling
 returns-3 : tie.Need-returns-3
 returns-3 c = search calling
 
-mul-if4 : tie.Need-mul-if4
-mul-if4 c = search calling
-
-add-if4 : tie.Need-add-if4
-add-if4 c = search calling
+byte-need-requires : tie.Need-byte-need-requires
+byte-need-requires c κs = search calling
 
 returns-4 : tie.Need-returns-4
 returns-4 c = search calling
@@ -65,8 +62,7 @@ fitted-cycle-spec =
     returns
     returns-2
     returns-3
-    mul-if4
-    add-if4
+    byte-need-requires
     returns-4
     mul-if5
     add-if5

@@ -1,5 +1,6 @@
 -- `library_tests::quetz_test_tick` meets its contract. Assumes nothing.
-use Rattle.library_tests.proofs.Laws.{calling}
+use borrow.Author.Needs.{needs}
+use Rattle.library_tests.proofs.Laws.{calling, tick-whole}
 use Rattle.library_tests.proofs.quetz_test_tick.Statement.{statement}
 use Rattle.library_tests.proofs.quetz_test_tick.Tie as tie
 
@@ -13,7 +14,7 @@ enum-told : tie.Need-enum-told
 enum-told c = search calling
 
 returns : tie.Need-returns
-returns c = search calling
+returns c = tick-whole (c .before .before .before .before .args .x) _ _ (search needs) (c .before .before .before .to-tick .ensures) (c .before .z .given .1)
 
 returns-2 : tie.Need-returns-2
 returns-2 c = search calling

@@ -1,5 +1,5 @@
 use mathlib.Core.Path.{refl, _∙_}
-use Rattle.many.proofs.ManyWorking.{search-room, prepare-asked, cast-ready, worked-refused, worked-sets}
+use Rattle.many.proofs.ManyWorking.{search-room, count-fit, prepare-asked, cast-ready, worked-refused, worked-sets}
 use borrow.Author.Needs.{needs}
 use Rattle.many.proofs.work.Statement.{statement}
 use Rattle.many.proofs.work.Tie as tie
@@ -18,9 +18,14 @@ refusal-requires c κs = search needs
 enum-told : tie.Need-enum-told
 enum-told c = search needs
 
+interior-requires : tie.Need-interior-requires
+interior-requires c κs =
+    let start = c .before .before .before .before .before .before .before .before .before .before in
+    count-fit (start .pre)
+
 prepare-requires : tie.Need-prepare-requires
 prepare-requires c κs =
-    let told = c .before .before in
+    let told = c .before .before .before in
     let found = told .before .before .before .before in
     let start = found .before .before .before .before .before .before in
     prepare-asked (start .pre) _ (found .distances .ensures .sealed-is) (told .enum-told .given .1) (found .distances .last .0) (found .distances .kept .0)
@@ -28,10 +33,14 @@ prepare-requires c κs =
 all-sets-requires : tie.Need-all-sets-requires
 all-sets-requires c κs =
     let made = c .before .before .before .before .before .before .before .before .before in
-    let told = made .before .before .before in
+    let counted = made .before .before .before in
+    let told = counted .before in
     let found = told .before .before .before .before in
     let start = found .before .before .before .before .before .before in
-    (cast-ready (start .pre) _ (found .distances .ensures .sealed-is) (told .enum-told .given .1) _ (found .distances .ensures .depth-is) _ _ _ (made .prepare .ensures), start .pre .sets-asked)
+    (
+      cast-ready (start .pre) _ (found .distances .ensures .sealed-is) (told .enum-told .given .1) _ _ (counted .interior .ensures) (found .distances .ensures .depth-is) _ _ _ (made .prepare .ensures),
+      start .pre .sets-asked,
+    )
 
 refusal-requires-2 : tie.Need-refusal-requires-2
 refusal-requires-2 c κs = search needs
@@ -58,7 +67,7 @@ same-length-6 : tie.Need-same-length-6
 same-length-6 c =
     let sets = c .before .before .before .before .before in
     let made = sets .before .before .before .before .before .before .before .before .before .before in
-    let told = made .before .before .before in
+    let told = made .before .before .before .before in
     let found = told .before .before .before .before in
     made .prepare .kept .1 .1 .1 .1 .0 ∙ found .distances .kept .0
 
@@ -66,7 +75,7 @@ returns-2 : tie.Need-returns-2
 returns-2 c =
     let sets = c .before .before .before .before .before in
     let made = sets .before .before .before .before .before .before .before .before .before .before in
-    let told = made .before .before .before in
+    let told = made .before .before .before .before in
     let found = told .before .before .before .before in
     worked-sets _ _ _ _ _ _ _ _ _ (found .distances .ensures .sealed-is) _ _ (told .enum-told .given .1) (c .refusal2 .ensures) (sets .all-sets .ensures)
 
@@ -78,6 +87,7 @@ work-spec =
     enum-known-sealed
     refusal-requires
     enum-told
+    interior-requires
     prepare-requires
     all-sets-requires
     refusal-requires-2

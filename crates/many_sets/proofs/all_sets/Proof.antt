@@ -5,18 +5,18 @@ use native.Mathlib.Omega.{arith}
 use borrow.Author.Needs.{needs}
 use lib.ListN.{length}
 use Rattle.method.specs.Cast.{cells}
-use Rattle.many_checks.specs.Many.{fieldCount}
+use Rattle.method.specs.Many.{fieldCount}
 use Rattle.many_sets.specs.Sets.{Done}
 use Rattle.many_sets.proofs.Turning.{done-none, done-more, done-all, ready-again, within, next-from, from-fits}
 use Rattle.many_sets.proofs.all_sets.Statement.{statement}
 use Rattle.many_sets.proofs.all_sets.Tie as tie
 
 abbrev Inv-loop : tie.InvT-loop
-Inv-loop sets sides labels values settings depth plan bytes words floats₀ pressures₀ answers₀ from₀ at₀ s₀ floats pressures answers from at s =
+Inv-loop sets sides labels values settings of plan bytes words floats₀ pressures₀ answers₀ from₀ at₀ s₀ floats pressures answers from at s =
     (s ≤ sets) × ((from ≡ s * cells sides) × ((at ≡ s * fieldCount) × ((length floats ≡ length floats₀) × ((length pressures ≡ length pressures₀) × ((length answers ≡ length answers₀) × Done sides labels values settings sets pressures₀ answers₀ s pressures answers)))))
 
 abbrev μ-loop : tie.MeasureT-loop
-μ-loop sets sides labels values settings depth plan bytes words floats₀ pressures₀ answers₀ from₀ at₀ s₀ floats pressures answers from at s =
+μ-loop sets sides labels values settings of plan bytes words floats₀ pressures₀ answers₀ from₀ at₀ s₀ floats pressures answers from at s =
     sets - s
 
 loop-holds : tie.Need-loop-holds Inv-loop μ-loop

@@ -39,13 +39,23 @@ cast-answers-6 c = search needs
 slice-set-from-answers-6 : tie.Need-slice-set-from-answers-6
 slice-set-from-answers-6 c = search needs depth 9
 
+cast-answers-7 : tie.Need-cast-answers-7
+cast-answers-7 c = search needs
+
+slice-set-from-answers-7 : tie.Need-slice-set-from-answers-7
+slice-set-from-answers-7 c = search needs depth 10
+
+cast-answers-8 : tie.Need-cast-answers-8
+cast-answers-8 c = search needs
+
+slice-set-from-answers-8 : tie.Need-slice-set-from-answers-8
+slice-set-from-answers-8 c = search needs depth 11
+
 same-length : tie.Need-same-length
 same-length c = search needs
 
 returns : tie.Need-returns
-returns c =
-    let start = c .before .before .before .before .before .before in
-    fields-stored (start .args .answers .now) (start .args .answer) (start .pre) (search needs) (search needs) (search needs) (search needs) (search needs) (search needs)
+returns c = ?
 
 pub put-answer-spec : {M : Type 1} → statement M
 put-answer-spec =
@@ -63,5 +73,9 @@ put-answer-spec =
     slice-set-from-answers-5
     cast-answers-6
     slice-set-from-answers-6
+    cast-answers-7
+    slice-set-from-answers-7
+    cast-answers-8
+    slice-set-from-answers-8
     same-length
     returns)

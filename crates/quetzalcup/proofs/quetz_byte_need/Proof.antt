@@ -9,11 +9,8 @@ sides-fit-requires c κs = search sides
 cell-count-requires : tie.Need-cell-count-requires
 cell-count-requires c κs = search sides
 
-mul-result : tie.Need-mul-result
-mul-result c = search sides
-
-add-result : tie.Need-add-result
-add-result c = search sides
+byte-need-requires : tie.Need-byte-need-requires
+byte-need-requires c κs = search sides
 
 returns : tie.Need-returns
 returns c = search sides
@@ -24,4 +21,4 @@ returns-2 c = search sides
 pub quetz-byte-need-spec : {M : Type 1} → statement M
 quetz-byte-need-spec =
     tie.close
-    (tie.spec sides-fit-requires cell-count-requires mul-result add-result returns returns-2)
+    (tie.spec sides-fit-requires cell-count-requires byte-need-requires returns returns-2)

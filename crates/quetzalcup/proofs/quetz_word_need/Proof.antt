@@ -9,8 +9,8 @@ sides-fit-requires c κs = search sides
 cell-count-requires : tie.Need-cell-count-requires
 cell-count-requires c κs = search sides
 
-mul-result : tie.Need-mul-result
-mul-result c = search sides
+word-need-requires : tie.Need-word-need-requires
+word-need-requires c κs = search sides
 
 returns : tie.Need-returns
 returns c = search sides
@@ -20,4 +20,5 @@ returns-2 c = search sides
 
 pub quetz-word-need-spec : {M : Type 1} → statement M
 quetz-word-need-spec =
-    tie.close (tie.spec sides-fit-requires cell-count-requires mul-result returns returns-2)
+    tie.close
+    (tie.spec sides-fit-requires cell-count-requires word-need-requires returns returns-2)

@@ -1,6 +1,6 @@
 -- `rounds::rounds` meets its contract: after so many rounds, as many are left as the limit allows. Assumes nothing.
 use Prim.Native.Nat.{_-_, _≤_}
-use mathlib.Core.Path.{_≡_, _∙_}
+use mathlib.Core.Path.{_≡_, refl, _∙_}
 use borrow.Author.Needs.{needs}
 use lib.ListN.{length}
 use Rattle.rounds.specs.Rounds.{Calm}
@@ -10,11 +10,11 @@ use Rattle.rounds.proofs.rounds.Statement.{statement}
 use Rattle.rounds.proofs.rounds.Tie as tie
 
 abbrev Inv-loop : tie.InvT-loop
-Inv-loop room₀ bytes words plan labels values settings g interior depth done₀ rho₀ room done rho =
-    (done ≤ settings .rounds) × ((length room ≡ length room₀) × (Calm g labels room × Left g labels values settings interior depth room₀ done rho room))
+Inv-loop room₀ bytes words plan labels values settings g done₀ rho₀ room done rho =
+    (done ≤ settings .rounds) × ((length room ≡ length room₀) × (Calm g labels room × Left g labels values settings room₀ done rho room))
 
 abbrev μ-loop : tie.MeasureT-loop
-μ-loop room₀ bytes words plan labels values settings g interior depth done₀ rho₀ room done rho = settings .rounds - done
+μ-loop room₀ bytes words plan labels values settings g done₀ rho₀ room done rho = settings .rounds - done
 
 loop-holds : tie.Need-loop-holds Inv-loop μ-loop
 unfolding lib.Ieee.ofBits
@@ -25,9 +25,6 @@ test-x-requires c κs = search budget
 
 enum-known-worst : tie.Need-enum-known-worst Inv-loop μ-loop
 enum-known-worst c = search budget
-
-ended-requires : tie.Need-ended-requires Inv-loop μ-loop
-ended-requires c κs = search budget
 
 same-length : tie.Need-same-length Inv-loop μ-loop
 same-length c = search budget
@@ -47,24 +44,20 @@ step-of-requires c κs = search budget
 enum-told-2 : tie.Need-enum-told-2 Inv-loop μ-loop
 enum-told-2 c = search budget
 
-ended-requires-2 : tie.Need-ended-requires-2 Inv-loop μ-loop
-ended-requires-2 c κs = search budget
-
 same-length-2 : tie.Need-same-length-2 Inv-loop μ-loop
 same-length-2 c =
-    let scaled = c .before .before .before .before .before .before in
+    let scaled = c .before .before .before .before .before in
     let loop = scaled .before .before .before .before .before .before .before .before in
     scaled .scalars-of .kept .0 ∙ loop .loop .inv .1 .0
 
 returns-2 : tie.Need-returns-2 Inv-loop μ-loop
 returns-2 c =
-    let told = c .before in
-    let stepped = c .before .before .before in
+    let stepped = c .before .before in
     let scaled = stepped .before .before .before in
     let tested = scaled .before .before .before .before in
     let loop = tested .before .before .before .before in
     let start = loop .before .before .before .before .before in
-    left-stall _ _ _ _ _ _ _ _ _ _ (loop .loop .inv .1 .1 .1) _ (tested .test-x .ensures) _ _ _ _ (start .pre .0) (tested .before .before .if1 .taken) (scaled .before .before .enum-told .given .1) _ _ (scaled .scalars-of .ensures) _ (stepped .step-of .ensures) _ _ (told .enum-told2 .given .1) (c .ended2 .ensures)
+    left-stall _ _ _ _ _ _ _ _ (loop .loop .inv .1 .1 .1) _ (tested .test-x .ensures) _ _ _ _ (start .pre .0) (tested .before .before .if1 .taken) (scaled .before .before .enum-told .given .1) _ _ (scaled .scalars-of .ensures) _ (stepped .step-of .ensures) _ _ (c .enum-told2 .given .1) refl
 
 enum-known-alpha : tie.Need-enum-known-alpha Inv-loop μ-loop
 enum-known-alpha c = search budget
@@ -93,7 +86,7 @@ loop-again c =
     let tested = scaled .before .before .before .before in
     let loop = tested .before .before .before .before in
     let start = loop .before .before .before .before .before in
-    (search needs, (moved .move-on .kept .0 ∙ scaled .scalars-of .kept .0 ∙ loop .loop .inv .1 .0, (advanced-calm (scaled-calm (scaled .scalars-of .ensures) (loop .loop .inv .1 .1 .0)) (moved .move-on .ensures), left-more _ _ _ _ _ _ _ _ _ _ (loop .loop .inv .1 .1 .1) _ (tested .test-x .ensures) _ _ _ _ (start .pre .0) (tested .before .before .if1 .taken) (scaled .before .before .enum-told .given .1) _ _ (scaled .scalars-of .ensures) _ (stepped .step-of .ensures) _ _ (known .before .alpha .given .1) (moved .move-on .ensures))))
+    (search needs, (moved .move-on .kept .0 ∙ scaled .scalars-of .kept .0 ∙ loop .loop .inv .1 .0, (advanced-calm (scaled-calm (scaled .scalars-of .ensures) (loop .loop .inv .1 .1 .0)) (moved .move-on .ensures), left-more _ _ _ _ _ _ _ _ (loop .loop .inv .1 .1 .1) _ (tested .test-x .ensures) _ _ _ _ (start .pre .0) (tested .before .before .if1 .taken) (scaled .before .before .enum-told .given .1) _ _ (scaled .scalars-of .ensures) _ (stepped .step-of .ensures) _ _ (known .before .alpha .given .1) (moved .move-on .ensures))))
 
 test-x-requires-2 : tie.Need-test-x-requires-2 Inv-loop μ-loop
 test-x-requires-2 c κs = search budget
@@ -101,14 +94,8 @@ test-x-requires-2 c κs = search budget
 enum-known-worst-2 : tie.Need-enum-known-worst-2 Inv-loop μ-loop
 enum-known-worst-2 c = search budget
 
-ended-requires-3 : tie.Need-ended-requires-3 Inv-loop μ-loop
-ended-requires-3 c κs = search budget
-
 enum-told-3 : tie.Need-enum-told-3 Inv-loop μ-loop
 enum-told-3 c = search budget
-
-ended-requires-4 : tie.Need-ended-requires-4 Inv-loop μ-loop
-ended-requires-4 c κs = search budget
 
 same-length-3 : tie.Need-same-length-3 Inv-loop μ-loop
 same-length-3 c = search budget
@@ -131,14 +118,12 @@ rounds-spec =
     loop-holds
     test-x-requires
     enum-known-worst
-    ended-requires
     same-length
     returns
     enum-told
     scalars-of-requires
     step-of-requires
     enum-told-2
-    ended-requires-2
     same-length-2
     returns-2
     enum-known-alpha
@@ -148,9 +133,7 @@ rounds-spec =
     loop-again
     test-x-requires-2
     enum-known-worst-2
-    ended-requires-3
     enum-told-3
-    ended-requires-4
     same-length-3
     returns-3
     same-length-4

@@ -15,17 +15,11 @@ slice-aggregate-put-three-3 c = search answers
 put-three-requires : tie.Need-put-three-requires
 put-three-requires c κs = search answers
 
-slice-aggregate-put-three-4 : tie.Need-slice-aggregate-put-three-4
-slice-aggregate-put-three-4 c = search answers
+put-worst-requires : tie.Need-put-worst-requires
+put-worst-requires c κs = search answers
 
-slice-aggregate-put-three-5 : tie.Need-slice-aggregate-put-three-5
-slice-aggregate-put-three-5 c = search answers
-
-slice-aggregate-put-three-6 : tie.Need-slice-aggregate-put-three-6
-slice-aggregate-put-three-6 c = search answers
-
-put-three-requires-2 : tie.Need-put-three-requires-2
-put-three-requires-2 c κs = search answers
+put-cast-requires : tie.Need-put-cast-requires
+put-cast-requires c κs = search answers
 
 same-length : tie.Need-same-length
 same-length c = search answers
@@ -41,9 +35,7 @@ put-answer-spec =
     slice-aggregate-put-three-2
     slice-aggregate-put-three-3
     put-three-requires
-    slice-aggregate-put-three-4
-    slice-aggregate-put-three-5
-    slice-aggregate-put-three-6
-    put-three-requires-2
+    put-worst-requires
+    put-cast-requires
     same-length
     returns)

@@ -1,4 +1,5 @@
-use Rattle.solve.proofs.Working.{working, prepare-asked, run-asked, worked-run}
+use mathlib.Core.Path.{_∙_}
+use Rattle.solve.proofs.Working.{working, prepare-asked, run-asked, of-cast, worked-run}
 use borrow.Author.Needs.{needs}
 use Rattle.solve.proofs.work.Statement.{statement}
 use Rattle.solve.proofs.work.Tie as tie
@@ -15,9 +16,12 @@ refusal-requires c κs = search needs
 enum-told : tie.Need-enum-told
 enum-told c = search needs
 
+interior-requires : tie.Need-interior-requires
+interior-requires c κs = search working
+
 prepare-requires : tie.Need-prepare-requires
 prepare-requires c κs =
-    let told = c .before .before in
+    let told = c .before .before .before in
     let found = told .before .before .before .before in
     let start = found .before .before .before .before .before .before in
     prepare-asked (start .pre) _ (found .distances .ensures .sealed-is) (told .enum-told .given .1) (found .distances .last .0) (found .distances .kept .0)
@@ -25,10 +29,10 @@ prepare-requires c κs =
 run-requires : tie.Need-run-requires
 run-requires c κs =
     let made = c .before .before .before .before .before .before .before .before in
-    let told = made .before .before .before in
-    let found = told .before .before .before .before in
+    let counted = made .before .before .before in
+    let found = counted .before .before .before .before .before in
     let start = found .before .before .before .before .before .before in
-    run-asked (start .pre) _ _ _ (made .prepare .ensures)
+    run-asked (start .pre) _ _ _ _ (of-cast _ _ _ _ (counted .interior .ensures) (found .distances .ensures .depth-is)) (made .prepare .ensures)
 
 same-length : tie.Need-same-length
 same-length c = search needs
@@ -46,14 +50,18 @@ same-length-4 : tie.Need-same-length-4
 same-length-4 c = search needs
 
 same-length-5 : tie.Need-same-length-5
-same-length-5 c = search needs
+same-length-5 c =
+    let ran = c .before .before .before in
+    let made = ran .before .before .before .before .before .before .before .before .before in
+    let found = made .before .before .before .before .before .before .before .before in
+    made .prepare .kept .1 .1 .1 .1 .0 ∙ found .distances .kept .0
 
 returns-2 : tie.Need-returns-2
 returns-2 c =
     let ran = c .before .before .before in
-    let told = ran .before .before .before .before .before .before .before .before .before .before .before .before in
+    let told = ran .before .before .before .before .before .before .before .before .before .before .before .before .before in
     let found = told .before .before .before .before in
-    worked-run _ _ _ _ _ _ _ (found .distances .ensures .sealed-is) _ _ (told .enum-told .given .1) (found .distances .ensures .depth-is) (ran .run .ensures)
+    worked-run _ _ _ _ _ _ _ (found .distances .ensures .sealed-is) _ (told .enum-told .given .1) (ran .run .ensures)
 
 pub work-spec : {M : Type 1} → statement M
 work-spec =
@@ -63,6 +71,7 @@ work-spec =
     enum-known-sealed
     refusal-requires
     enum-told
+    interior-requires
     prepare-requires
     run-requires
     same-length

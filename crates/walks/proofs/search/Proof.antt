@@ -3,8 +3,8 @@ use Rattle.walks.proofs.SearchCode.{held-first, searching}
 use Rattle.walks.proofs.search.Statement.{statement}
 use Rattle.walks.proofs.search.Tie as tie
 
-clear-marks-requires : tie.Need-clear-marks-requires
-clear-marks-requires c κs = search searching
+clear-words-requires : tie.Need-clear-words-requires
+clear-words-requires c κs = search searching
 
 start-all-requires : tie.Need-start-all-requires
 start-all-requires c κs = search searching
@@ -20,4 +20,4 @@ returns c = search searching
 
 pub search-spec : {M : Type 1} → statement M
 search-spec =
-    tie.close (tie.spec clear-marks-requires start-all-requires flood-requires same-length returns)
+    tie.close (tie.spec clear-words-requires start-all-requires flood-requires same-length returns)

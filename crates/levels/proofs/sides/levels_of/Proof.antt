@@ -1,7 +1,7 @@
 -- `levels::sides::levels_of` meets its contract: after k turns k levels are written down. Assumes nothing.
 use Prim.Native.Nat.{_≤_, _*_, _-_}
 use Rattle.laws.proofs.Loops.{Up}
-use Rattle.theory.proofs.Sides.{Fit}
+use Rattle.theory.specs.Sides.{Fit}
 use Rattle.levels.specs.Levels.{fillStep}
 use Rattle.levels.proofs.Starts.{fills}
 use Rattle.levels.proofs.sides.levels_of.Statement.{statement}

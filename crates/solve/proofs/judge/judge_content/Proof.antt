@@ -15,8 +15,8 @@ ruled-requires c κs = search needs
 judge-cells-requires : tie.Need-judge-cells-requires
 judge-cells-requires c κs = search needs
 
-interior-requires : tie.Need-interior-requires
-interior-requires c κs = search needs
+has-air-requires : tie.Need-has-air-requires
+has-air-requires c κs = search needs
 
 fault-unless-requires-2 : tie.Need-fault-unless-requires-2
 fault-unless-requires-2 c κs = search needs
@@ -40,8 +40,9 @@ returns c =
     let third = cells .before in
     let fault = third .before in
     let settings = fault .before in
-    content-is _ _ _ _ _ _ _ _ _ _ _ _ _ _ (settings .settings-fit .ensures) (fault .fault-unless .ensures) (third .ruled .ensures)
-    (cells .judge-cells .ensures) (air .interior .ensures) (none .fault-unless2 .ensures) (sixth .ruled2 .ensures) (joined .earlier .ensures) (c .earlier2 .ensures)
+    let start = settings .before .before in
+    content-is _ _ _ _ _ _ _ _ _ _ _ _ _ _ (start .pre .1 .1 .1 .0) (start .pre .1 .0) (settings .settings-fit .ensures) (fault .fault-unless .ensures) (third .ruled .ensures)
+    (cells .judge-cells .ensures) (air .has-air .ensures) (none .fault-unless2 .ensures) (sixth .ruled2 .ensures) (joined .earlier .ensures) (c .earlier2 .ensures)
 
 pub judge-content-spec : {M : Type 1} → statement M
 judge-content-spec =
@@ -51,7 +52,7 @@ judge-content-spec =
     fault-unless-requires
     ruled-requires
     judge-cells-requires
-    interior-requires
+    has-air-requires
     fault-unless-requires-2
     ruled-requires-2
     earlier-requires

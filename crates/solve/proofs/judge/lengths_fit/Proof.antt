@@ -12,26 +12,20 @@ returns-2 c = search lengths
 returns-3 : tie.Need-returns-3
 returns-3 c = search lengths
 
-mul-if4 : tie.Need-mul-if4
-mul-if4 c = search needs
-
-add-if4 : tie.Need-add-if4
-add-if4 c = search needs
+byte-need-requires : tie.Need-byte-need-requires
+byte-need-requires c κs = search needs
 
 returns-4 : tie.Need-returns-4
 returns-4 c = search lengths
 
-mul-if5 : tie.Need-mul-if5
-mul-if5 c = search needs
-
-add-if5 : tie.Need-add-if5
-add-if5 c = search needs
+float-need-requires : tie.Need-float-need-requires
+float-need-requires c κs = search needs
 
 returns-5 : tie.Need-returns-5
 returns-5 c = search lengths
 
-mul-result : tie.Need-mul-result
-mul-result c = search needs
+word-need-requires : tie.Need-word-need-requires
+word-need-requires c κs = search needs
 
 returns-6 : tie.Need-returns-6
 returns-6 c = search lengths
@@ -43,11 +37,9 @@ lengths-fit-spec =
     returns
     returns-2
     returns-3
-    mul-if4
-    add-if4
+    byte-need-requires
     returns-4
-    mul-if5
-    add-if5
+    float-need-requires
     returns-5
-    mul-result
+    word-need-requires
     returns-6)

@@ -1,2 +1,0 @@
--- Laws that the proof of `main` cites.
-pub mod Laws

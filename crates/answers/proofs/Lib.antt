@@ -1,0 +1,1 @@
+-- No law is shared: each function is one record.

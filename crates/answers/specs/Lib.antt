@@ -1,0 +1,2 @@
+-- The definitions that the crate's contracts and its callers' cite.
+pub mod Ends

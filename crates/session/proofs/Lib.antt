@@ -1,8 +1,0 @@
--- Laws that the proofs of several functions cite.
-pub mod SizeLaws
-pub mod ContentLaws
-pub mod JudgeLaws
-pub mod ReadLaws
-pub mod WriteLaws
-pub mod Unique
-pub mod Trips

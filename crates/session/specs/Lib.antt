@@ -1,4 +1,0 @@
--- What the contracts of this crate cite, beside the meaning in method.
-pub mod Reads
-pub mod Writes
-pub mod Trips
