@@ -149,7 +149,7 @@ module _ (g : Sides) (ls : List ℕ) (t : Settings) (sets : ℕ) (vs ps rs : Lis
       unfolding manyHandedBack
       solved-is r qs ss bs fs ws w b f o =
           let same : SameCall a g ls vs t sets ps rs =
-              record { sides = refl; labels = refl; values = refl; settings = refl; sets = refl; pressures = refl; answers = refl; roomy = z .fits } in
+          record { sides = refl; labels = refl; values = refl; settings = refl; sets = refl; pressures = refl; answers = refl; roomy = z .fits } in
           let e : solvingMany a ≡ manyHandedBack a r qs ss = past-six a (z .passes) ∙ w .is a same in
           let n = z .lent .labelled in
           record {

@@ -91,8 +91,6 @@ pub sets-rest : (k : ℕ) → 1 ≤ k → leb k 64 ≡ setsFit k
 unfolding setsFit
 sets-rest k h = between-rest 1 64 k h
 
-pub ruleset many-sets = (needs, sets-low, sets-rest)
-
 pub task-good : (p q : Bool) (t : Settings) (k : ℕ) → p ≡ settingsFit t → p ≡ true → q ≡ setsFit k → q ≡ (settingsFit t && setsFit k)
 task-good p q t k e h f = f ∙ ap (λ b. b && setsFit k) (sym h ∙ e)
 

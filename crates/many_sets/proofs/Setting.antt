@@ -8,9 +8,9 @@ use borrow.Author.Needs.{needs}
 use lib.Dec.{leb, eqb}
 use lib.IntN.{ℤ, pos}
 use lib.ListN.{length, set}
-use mir.Syntax.{w64}
-use mir.Val.{toZ}
-use mir.Facts.{toZ-pos}
+use mir.Syntax.{w32, w64}
+use mir.Val.{SFits, toZ, ofZ}
+use mir.Facts.{toZ-pos, toZ-ofZ}
 use Rattle.method.specs.declared.Sides.{Sides}
 use Rattle.method.specs.declared.Settings.{Settings}
 use Rattle.method.specs.declared.Answer.{Answer}
@@ -34,7 +34,7 @@ use Rattle.solve.proofs.Working.{worked-run}
 use Rattle.solve.proofs.Judging.{both}
 use Rattle.solve.proofs.Solving.{in-range, past-six, before-seven}
 use Rattle.method.specs.Many.{fields, fieldCount}
-use Rattle.many_sets.specs.Sets.{Past, CastReady, SameSet, SetOf}
+use Rattle.many_sets.specs.Sets.{fourAt, Past, CastReady, SameSet, SetOf}
 
 -- ---- what the rounds ask
 module _ (t : Settings) (e : settingsFit t ≡ true) where
@@ -140,14 +140,25 @@ stored (u ∷ v ∷ w ∷ x ∷ y ∷ z ∷ p ∷ []) a b c d e f g i h = absurd
 stored (u ∷ v ∷ w ∷ x ∷ y ∷ z ∷ p ∷ q ∷ []) a b c d e f g i h = refl
 stored (u ∷ v ∷ w ∷ x ∷ y ∷ z ∷ p ∷ q ∷ o ∷ l) a b c d e f g i h = absurd (omega arith)
 
-small : (n : ℕ) → n < 2 ^ 32 → toZ w64 n ≡ pos n
+pub small : (n : ℕ) → n < 2 ^ 32 → toZ w64 n ≡ pos n
 small n h = toZ-pos w64 (omega arith)
 
-pub fields-stored : (l : List ℤ) (r : Answer) (v : ℤ) → length l ≡ fieldCount → v ≡ r .worstvalue
-    → r .number < 2 ^ 32 → r .place < 2 ^ 32 → r .rounds < 2 ^ 32 → r .worst < 2 ^ 32 → r .worstcell < 2 ^ 32 → r .interior < 2 ^ 32 → r .depth < 2 ^ 32
-    → set (set (set (set (set (set (set (set l 0 (toZ w64 (r .number))) 1 (toZ w64 (r .place))) 2 (toZ w64 (r .rounds))) 3 (toZ w64 (r .worst))) 4 (toZ w64 (r .worstcell))) 5 v) 6 (toZ w64 (r .interior))) 7 (toZ w64 (r .depth)) ≡ fields r
+pub head-stored : (l : List ℤ) (a b c d : ℕ) → a < 2 ^ 32 → b < 2 ^ 32 → c < 2 ^ 32 → d < 2 ^ 32
+    → set (set (set (set l 0 (toZ w64 a)) 1 (toZ w64 b)) 2 (toZ w64 c)) 3 (toZ w64 d) ≡ fourAt 0 (pos a) (pos b) (pos c) (pos d) l
+head-stored l a b c d p q r s = rw (small a p, small b q, small c r, small d s) refl
+
+pub tail-stored : (l : List ℤ) (a : ℕ) (v z : ℤ) (c d : ℕ) → v ≡ z → a < 2 ^ 32 → c < 2 ^ 32 → d < 2 ^ 32
+    → set (set (set (set l 4 (toZ w64 a)) 5 v) 6 (toZ w64 c)) 7 (toZ w64 d) ≡ fourAt 4 (pos a) z (pos c) (pos d) l
+tail-stored l a v z c d e p r s = rw (small a p, e, small c r, small d s) refl
+
+pub wide-stored : (r z : ℤ) → SFits w64 r → SFits w32 z → r ≡ toZ w32 (ofZ w32 z) → toZ w64 (ofZ w64 r) ≡ z
+wide-stored r z f g e = toZ-ofZ f ∙ e ∙ toZ-ofZ g
+
+pub fields-stored : (l m n : List ℤ) (r : Answer) → length l ≡ fieldCount → SFits w32 (r .worstvalue)
+    → m ≡ fourAt 0 (pos (r .number)) (pos (r .place)) (pos (r .rounds)) (pos (r .worst)) l
+    → n ≡ fourAt 4 (pos (r .worstcell)) (toZ w32 (ofZ w32 (r .worstvalue))) (pos (r .interior)) (pos (r .depth)) m → n ≡ fields r
 unfolding fields
-fields-stored l r v h ev a b c d e f g =
-    stored l _ _ _ _ _ _ _ _ h
-    ∙ ap₂ _∷_ (small (r .number) a) (ap₂ _∷_ (small (r .place) b) (ap₂ _∷_ (small (r .rounds) c) (ap₂ _∷_ (small (r .worst) d)
-    (ap₂ _∷_ (small (r .worstcell) e) (ap₂ _∷_ ev (ap₂ _∷_ (small (r .interior) f) (ap₂ _∷_ (small (r .depth) g) refl)))))))
+fields-stored l m n r h s e f =
+    f ∙ ap (λ v. fourAt 4 (pos (r .worstcell)) v (pos (r .interior)) (pos (r .depth)) m) (toZ-ofZ s)
+    ∙ ap (fourAt 4 (pos (r .worstcell)) (r .worstvalue) (pos (r .interior)) (pos (r .depth))) e
+    ∙ stored l (pos (r .number)) (pos (r .place)) (pos (r .rounds)) (pos (r .worst)) (pos (r .worstcell)) (r .worstvalue) (pos (r .interior)) (pos (r .depth)) h

@@ -49,8 +49,7 @@ turned g ls vs t from at to end ps rs r qs ss et ee z q = record {
         pressures = w .pressures ∙ sym (part-mid from to (cells g) ps et);
         roomy = w .roomy;
       } in
-      let is = z .is a same in
-      (
+      let is = z .is a same in (
         placed-mid from to (cells g) ps qs et ∙ ap (λ l. placed from (cells g) l ps) (is .1),
         placed-mid at end fieldCount rs ss ee ∙ ap (λ l. placed at fieldCount l rs) (q ∙ ap fields (is .0)),
       );
@@ -91,26 +90,25 @@ module _ (g : Sides) (ls : List ℕ) (vs : List ℤ) (t : Settings) (sets : ℕ)
         let n : manySize a ≡ cells g = ap cells (w .sides) in
         let before = d .is a w in
         let long-p : length (endToEnd s (setPressures a)) ≡ s * cells g =
-            laid-length (cells g) s (setPressures a) (λ i l. set-pressures-length a z₀ i (omega arith) ∙ n) in
+        laid-length (cells g) s (setPressures a) (λ i l. set-pressures-length a z₀ i (omega arith) ∙ n) in
         let long-f : length (endToEnd s (setFields a)) ≡ s * fieldCount =
-            laid-length fieldCount s (setFields a) (λ i l. set-fields-length a z₀ i) in
+        laid-length fieldCount s (setFields a) (λ i l. set-fields-length a z₀ i) in
         let values-same : stretch (manySize a) s (a .values) ≡ part from (cells g) vs =
-            ap₂ (λ m l. take m (drop (s * m) l)) n (w .values) ∙ ap (λ m. part m (cells g) vs) (sym ef) in
+        ap₂ (λ m l. take m (drop (s * m) l)) n (w .values) ∙ ap (λ m. part m (cells g) vs) (sym ef) in
         let pressures-same : stretch (manySize a) s (a .pressures) ≡ part from (cells g) qs =
-            ap₂ (λ m l. take m (drop (s * m) l)) n (w .pressures) ∙ sym (still (cells g) s (setPressures a) ps long-p)
-            ∙ ap₂ (λ m l. part m (cells g) l) (sym ef) (sym (before .0)) in
+        ap₂ (λ m l. take m (drop (s * m) l)) n (w .pressures) ∙ sym (still (cells g) s (setPressures a) ps long-p)
+        ∙ ap₂ (λ m l. part m (cells g) l) (sym ef) (sym (before .0)) in
         let same : SameSet (single a s) g ls (part from (cells g) vs) t (part from (cells g) qs) = record {
           cast = ap₃′ (w .sides) (w .labels) values-same;
           settings = w .settings;
           pressures = pressures-same;
           roomy = single-fits a z₀ s few;
         } in
-        let after = z .is (single a s) same in
-        (
+        let after = z .is (single a s) same in (
           after .0 ∙ ap₂ (λ m l. placed m (cells g) (setPressures a s) l) ef (before .0) ∙ one-more (cells g) s (setPressures a) ps long-p
-          ∙ ap (λ m. endToEnd m (setPressures a) ++ drop (m * cells g) ps) (sym (add-one s)),
+              ∙ ap (λ m. endToEnd m (setPressures a) ++ drop (m * cells g) ps) (sym (add-one s)),
           after .1 ∙ ap₂ (λ m l. placed m fieldCount (setFields a s) l) ea (before .1) ∙ one-more fieldCount s (setFields a) rs long-f
-          ∙ ap (λ m. endToEnd m (setFields a) ++ drop (m * fieldCount) rs) (sym (add-one s)),
+              ∙ ap (λ m. endToEnd m (setFields a) ++ drop (m * fieldCount) rs) (sym (add-one s)),
         );
   }
     where
@@ -122,8 +120,7 @@ module _ (g : Sides) (ls : List ℕ) (vs : List ℤ) (t : Settings) (sets : ℕ)
   done-all s qs ss l h ep er d = record {
     is = λ a w.
         let same : s ≡ sets = omega arith in
-        let is = d .is a w in
-        (
+        let is = d .is a w in (
           is .0 ∙ ap (λ m. endToEnd m (setPressures a) ++ drop (m * cells g) ps) same ∙ ap (λ x. endToEnd sets (setPressures a) ++ x) (none-left (sets * cells g) ps ep) ∙ append-nil (endToEnd sets (setPressures a)),
           is .1 ∙ ap (λ m. endToEnd m (setFields a) ++ drop (m * fieldCount) rs) same ∙ ap (λ x. endToEnd sets (setFields a) ++ x) (none-left (sets * fieldCount) rs er) ∙ append-nil (endToEnd sets (setFields a)),
         );

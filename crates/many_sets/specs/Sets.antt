@@ -4,7 +4,7 @@ use mathlib.Core.Path.{_≡_}
 use mathlib.Core.Bool.{true, false}
 use mathlib.Core.List.{List, _++_}
 use lib.Dec.{eqb}
-use lib.ListN.{length, take, drop}
+use lib.ListN.{length, set, take, drop}
 use lib.IntN.{ℤ}
 use Rattle.method.specs.declared.Sides.{Sides}
 use Rattle.method.specs.declared.Settings.{Settings}
@@ -18,6 +18,10 @@ use Rattle.answers.specs.declared.Measured.{Measured}
 use Rattle.rounds.specs.declared.Plan.{Plan}
 use Rattle.rounds.specs.Rounds.{castOf}
 use Rattle.solve.specs.Work.{PlanOf, OfCast}
+
+-- four elements from k on
+abbrev pub fourAt : ℕ → ℤ → ℤ → ℤ → ℤ → List ℤ → List ℤ
+fourAt k a b c d l = set (set (set (set l k a) (k + 1) b) (k + 2) c) (k + 3) d
 
 -- what the whole call's checks leave known of the cast and the settings
 pub record Past (g : Sides) (ls : List ℕ) (t : Settings) : Type 0 where

@@ -1,10 +1,11 @@
 // One cast with many sets (document 02, wish 1), past check 7: each set on the prepared cast, its answer and its pressures into their own stretches.
 ghost use mathlib.Core.Path.{_≡_};
 ghost use Prim.Native.Nat.{_+_, _≤_};
+ghost use lib.IntN.{pos};
 ghost use lib.ListN.{length};
 ghost use Rattle.method.specs.Cast.{cells};
 ghost use Rattle.method.specs.Many.{fields, fieldCount};
-ghost use Rattle.many_sets.specs.Sets.{CastReady, SetOf, Turned, SetsAsked, SetsOf};
+ghost use Rattle.many_sets.specs.Sets.{fourAt, CastReady, SetOf, Turned, SetsAsked, SetsOf};
 use answers::Measured;
 use answers::refusal;
 use checks::cast::bad_value;
@@ -14,19 +15,48 @@ use method::Settings;
 use method::Sides;
 use rounds::Plan;
 
+// The first four fields of an answer.
+fn put_head(answers: &mut [i64], number: u32, place: u32, rounds: u32, worst: u32)
+    requires { ⌜ length (now answers) ≡ fieldCount ⌝ }
+    ensures { λ _. ⌜ now (answers .exit) ≡ fourAt 0 (pos number) (pos place) (pos rounds) (pos worst) (now (answers .entry)) ⌝ }
+{
+    answers[0] = number as i64;
+    answers[1] = place as i64;
+    answers[2] = rounds as i64;
+    answers[3] = worst as i64;
+}
+
+// The other four.
+fn put_tail(answers: &mut [i64], worstcell: u32, worstvalue: i32, interior: u32, depth: u32)
+    requires { ⌜ length (now answers) ≡ fieldCount ⌝ }
+    ensures { λ _. ⌜ now (answers .exit) ≡ fourAt 4 (pos worstcell) worstvalue (pos interior) (pos depth) (now (answers .entry)) ⌝ }
+{
+    let value = whole::wide(worstvalue);
+    answers[4] = worstcell as i64;
+    answers[5] = value;
+    answers[6] = interior as i64;
+    answers[7] = depth as i64;
+}
+
 // An answer's fields, in document 01's order, into their stretch.
 fn put_answer(answers: &mut [i64], answer: Answer)
     requires { ⌜ length (now answers) ≡ fieldCount ⌝ }
     ensures { λ _. ⌜ now (answers .exit) ≡ fields answer ⌝ }
 {
-    answers[0] = answer.number as i64;
-    answers[1] = answer.place as i64;
-    answers[2] = answer.rounds as i64;
-    answers[3] = answer.worst as i64;
-    answers[4] = answer.worstcell as i64;
-    answers[5] = answer.worstvalue as i64;
-    answers[6] = answer.interior as i64;
-    answers[7] = answer.depth as i64;
+    put_head(
+        answers,
+        answer.number,
+        answer.place,
+        answer.rounds,
+        answer.worst,
+    );
+    put_tail(
+        answers,
+        answer.worstcell,
+        answer.worstvalue,
+        answer.interior,
+        answer.depth,
+    );
 }
 
 // One set: check 5, and then its rounds. The labels and lists stay as they are, and nothing is asked of what the binary64 room holds.

@@ -103,7 +103,16 @@ pub extern "C" fn quetz_solve_many(
     let sides = task.sides;
     let settings = task.settings;
     many::solve_many(
-        sides, labels, settings, sets, values, pressures, answers, bytes, floats, words,
+        sides,
+        labels,
+        settings,
+        sets,
+        values,
+        pressures,
+        answers,
+        bytes,
+        floats,
+        words,
     )
 }
 

@@ -28,8 +28,8 @@ add-b c =
     let told = c in
     let start = told .before .before .before .before .before .before .before in
     let k =
-        known (start .args .sides) (start .args .labels .now) (start .args .settings) (start .args .sets) (start .args .values .now) (start .args .pressures .now) (start .args .answers .now) (start .args .bytes .now) (start .args .floats .now) (start .args .words .now)
-        _ (told .before .before .judge .ensures) (told .enum-told .given .1) in
+    known (start .args .sides) (start .args .labels .now) (start .args .settings) (start .args .sets) (start .args .values .now) (start .args .pressures .now) (start .args .answers .now) (start .args .bytes .now) (start .args .floats .now) (start .args .words .now)
+    _ (told .before .before .judge .ensures) (told .enum-told .given .1) in
     omega (arith, k .few)
 
 mul-f : tie.Need-mul-f
@@ -37,8 +37,8 @@ mul-f c =
     let told = c in
     let start = told .before .before .before .before .before .before .before in
     let k =
-        known (start .args .sides) (start .args .labels .now) (start .args .settings) (start .args .sets) (start .args .values .now) (start .args .pressures .now) (start .args .answers .now) (start .args .bytes .now) (start .args .floats .now) (start .args .words .now)
-        _ (told .before .before .judge .ensures) (told .enum-told .given .1) in
+    known (start .args .sides) (start .args .labels .now) (start .args .settings) (start .args .sets) (start .args .values .now) (start .args .pressures .now) (start .args .answers .now) (start .args .bytes .now) (start .args .floats .now) (start .args .words .now)
+    _ (told .before .before .judge .ensures) (told .enum-told .given .1) in
     omega (arith, k .few)
 
 add-f : tie.Need-add-f
@@ -46,8 +46,8 @@ add-f c =
     let told = c in
     let start = told .before .before .before .before .before .before .before in
     let k =
-        known (start .args .sides) (start .args .labels .now) (start .args .settings) (start .args .sets) (start .args .values .now) (start .args .pressures .now) (start .args .answers .now) (start .args .bytes .now) (start .args .floats .now) (start .args .words .now)
-        _ (told .before .before .judge .ensures) (told .enum-told .given .1) in
+    known (start .args .sides) (start .args .labels .now) (start .args .settings) (start .args .sets) (start .args .values .now) (start .args .pressures .now) (start .args .answers .now) (start .args .bytes .now) (start .args .floats .now) (start .args .words .now)
+    _ (told .before .before .judge .ensures) (told .enum-told .given .1) in
     omega (arith, k .few)
 
 mul-w : tie.Need-mul-w
@@ -64,8 +64,8 @@ part-work-end c =
     let told = c .before .before in
     let start = told .before .before .before .before .before .before .before in
     let k =
-        known (start .args .sides) (start .args .labels .now) (start .args .settings) (start .args .sets) (start .args .values .now) (start .args .pressures .now) (start .args .answers .now) (start .args .bytes .now) (start .args .floats .now) (start .args .words .now)
-        _ (told .before .before .judge .ensures) (told .enum-told .given .1) in
+    known (start .args .sides) (start .args .labels .now) (start .args .settings) (start .args .sets) (start .args .values .now) (start .args .pressures .now) (start .args .answers .now) (start .args .bytes .now) (start .args .floats .now) (start .args .words .now)
+    _ (told .before .before .judge .ensures) (told .enum-told .given .1) in
     omega (arith, k .bytes-room)
 
 sub-work-2 : tie.Need-sub-work-2
@@ -79,8 +79,8 @@ part-work-end-2 c =
     let told = c .before .before .before in
     let start = told .before .before .before .before .before .before .before in
     let k =
-        known (start .args .sides) (start .args .labels .now) (start .args .settings) (start .args .sets) (start .args .values .now) (start .args .pressures .now) (start .args .answers .now) (start .args .bytes .now) (start .args .floats .now) (start .args .words .now)
-        _ (told .before .before .judge .ensures) (told .enum-told .given .1) in
+    known (start .args .sides) (start .args .labels .now) (start .args .settings) (start .args .sets) (start .args .values .now) (start .args .pressures .now) (start .args .answers .now) (start .args .bytes .now) (start .args .floats .now) (start .args .words .now)
+    _ (told .before .before .judge .ensures) (told .enum-told .given .1) in
     omega (arith, k .floats-room)
 
 sub-work-3 : tie.Need-sub-work-3
@@ -94,8 +94,8 @@ part-work-end-3 c =
     let told = c .before .before .before .before in
     let start = told .before .before .before .before .before .before .before in
     let k =
-        known (start .args .sides) (start .args .labels .now) (start .args .settings) (start .args .sets) (start .args .values .now) (start .args .pressures .now) (start .args .answers .now) (start .args .bytes .now) (start .args .floats .now) (start .args .words .now)
-        _ (told .before .before .judge .ensures) (told .enum-told .given .1) in
+    known (start .args .sides) (start .args .labels .now) (start .args .settings) (start .args .sets) (start .args .values .now) (start .args .pressures .now) (start .args .answers .now) (start .args .bytes .now) (start .args .floats .now) (start .args .words .now)
+    _ (told .before .before .judge .ensures) (told .enum-told .given .1) in
     omega (arith, k .words-room)
 
 work-requires : tie.Need-work-requires
@@ -103,8 +103,8 @@ work-requires c κs =
     let told = c .before .before .before .before .before in
     let start = told .before .before .before .before .before .before .before in
     let k =
-        known (start .args .sides) (start .args .labels .now) (start .args .settings) (start .args .sets) (start .args .values .now) (start .args .pressures .now) (start .args .answers .now) (start .args .bytes .now) (start .args .floats .now) (start .args .words .now)
-        _ (told .before .before .judge .ensures) (told .enum-told .given .1) in
+    known (start .args .sides) (start .args .labels .now) (start .args .settings) (start .args .sets) (start .args .values .now) (start .args .pressures .now) (start .args .answers .now) (start .args .bytes .now) (start .args .floats .now) (start .args .words .now)
+    _ (told .before .before .judge .ensures) (told .enum-told .given .1) in
     checked _ _ _ _ _ _ _ _ _ _ k
 
 clear-requires : tie.Need-clear-requires
@@ -113,8 +113,8 @@ clear-requires c κs =
     let told = work .before .before .before .before .before .before in
     let start = told .before .before .before .before .before .before .before in
     let k =
-        known (start .args .sides) (start .args .labels .now) (start .args .settings) (start .args .sets) (start .args .values .now) (start .args .pressures .now) (start .args .answers .now) (start .args .bytes .now) (start .args .floats .now) (start .args .words .now)
-        _ (told .before .before .judge .ensures) (told .enum-told .given .1) in
+    known (start .args .sides) (start .args .labels .now) (start .args .settings) (start .args .sets) (start .args .values .now) (start .args .pressures .now) (start .args .answers .now) (start .args .bytes .now) (start .args .floats .now) (start .args .words .now)
+    _ (told .before .before .judge .ensures) (told .enum-told .given .1) in
     clear-asked _ _ _ _ _ _ _ _ _ _ k (work .work .last .1 .1 .1 .1 .1 .1 .1 .0) (work .work .last .1 .1 .1 .1 .1 .1 .1 .1 .0) (work .work .last .1 .1 .1 .1 .1 .1 .1 .1 .1 .0) (work .work .kept .1 .1 .1 .1 .1 .1 .1 .0) (work .work .kept .1 .1 .1 .1 .1 .1 .1 .1 .0) (work .work .kept .1 .1 .1 .1 .1 .1 .1 .1 .1 .0)
 
 returns : tie.Need-returns
@@ -154,8 +154,8 @@ returns-2 c =
     let told = work .before .before .before .before .before .before in
     let start = told .before .before .before .before .before .before .before in
     let k =
-        known (start .args .sides) (start .args .labels .now) (start .args .settings) (start .args .sets) (start .args .values .now) (start .args .pressures .now) (start .args .answers .now) (start .args .bytes .now) (start .args .floats .now) (start .args .words .now)
-        _ (told .before .before .judge .ensures) (told .enum-told .given .1) in
+    known (start .args .sides) (start .args .labels .now) (start .args .settings) (start .args .sets) (start .args .values .now) (start .args .pressures .now) (start .args .answers .now) (start .args .bytes .now) (start .args .floats .now) (start .args .words .now)
+    _ (told .before .before .judge .ensures) (told .enum-told .given .1) in
     solved-is _ _ _ _ _ _ _ _ _ _ k (work .work .last .1 .1 .1 .1 .1 .1 .1 .0) (work .work .last .1 .1 .1 .1 .1 .1 .1 .1 .0) (work .work .last .1 .1 .1 .1 .1 .1 .1 .1 .1 .0) (work .work .kept .1 .1 .1 .1 .1 .1 .1 .0) (work .work .kept .1 .1 .1 .1 .1 .1 .1 .1 .0) (work .work .kept .1 .1 .1 .1 .1 .1 .1 .1 .1 .0) _ _ _ _ _ _ (work .work .ensures) (end .clear .ensures .0) (end .clear .ensures .1 .0) (end .clear .ensures .1 .1)
 
 pub solve-many-spec : {M : Type 1} → statement M

@@ -36,8 +36,7 @@ all-sets-requires c κs =
     let counted = made .before .before .before in
     let told = counted .before in
     let found = told .before .before .before .before in
-    let start = found .before .before .before .before .before .before in
-    (
+    let start = found .before .before .before .before .before .before in (
       cast-ready (start .pre) _ (found .distances .ensures .sealed-is) (told .enum-told .given .1) _ _ (counted .interior .ensures) (found .distances .ensures .depth-is) _ _ _ (made .prepare .ensures),
       start .pre .sets-asked,
     )

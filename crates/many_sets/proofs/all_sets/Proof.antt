@@ -26,8 +26,7 @@ take-turn-requires : tie.Need-take-turn-requires Inv-loop μ-loop
 take-turn-requires c κs =
     let start = c .before .before .before .before .before .before .before .before .before in
     let inv = c .before .before .before .before .loop .inv in
-    let h = c .before .before .before .loop-test .taken in
-    (
+    let h = c .before .before .before .loop-test .taken in (
       ready-again _ (start .pre .0) (inv .1 .1 .1 .0),
       (
         within _ _ _ _ _ h (inv .1 .0) (start .pre .1 .valued),
@@ -64,8 +63,7 @@ loop-again c =
     let start = c .before .before .before .before .before .before .before .before .before .before .before .before .before .before in
     let inv = c .before .before .before .before .before .before .before .before .before .loop .inv in
     let h = c .before .before .before .before .before .before .before .before .loop-test .taken in
-    let turn = c .before .before .before .before .take-turn in
-    (
+    let turn = c .before .before .before .before .take-turn in (
       omega (arith, h),
       (
         next-from _ _ _ _ (start .pre .0 .past .labelled) (inv .1 .0),
