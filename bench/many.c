@@ -4,6 +4,7 @@
  *
  * prints a row for each cast: both times in ms (the least of RUNS runs, 7 if not said), what a call spends once for the cast (checks of the labels, distances,
  * levels, lists, clearing: the difference of the two, divided by the 29 calls saved), and its share of a single call. */
+#define _POSIX_C_SOURCE 199309L
 #include <inttypes.h>
 #include <stdio.h>
 #include <stdlib.h>

@@ -2,3 +2,4 @@
 pub mod ManyWorking
 pub mod ManySolving
 pub mod ManyExam
+pub mod SetCases

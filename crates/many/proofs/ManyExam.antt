@@ -1,4 +1,5 @@
--- What the promise of many sets comes to: one result; each set's single call; question 3 of each set's very answer; hand cases by the code. Assumes nothing.
+-- What the promise of many sets comes to: one result; each set's single call; question 3 of each set's very answer;
+-- hand cases by the code. Assumes nothing.
 use Prim.Native.Nat.{ℕ, _<_, _≤_}
 use mathlib.Core.Path.{_≡_, refl, sym, ap, _∙_}
 use mathlib.Core.List.{List, [], _∷_, _++_}
@@ -41,7 +42,8 @@ module _ {a : AskedMany} {r : Answer} {ps rs : List ℤ} {bytes : List ℕ} {flo
     pub set-fields-code : stretch fieldCount s rs ≡ fields (solving (single a s) .answer)
     set-fields-code = ap (stretch fieldCount s) (z .answers) ∙ set-fields-are a zero s among
 
-    -- QUESTION 3 of a set, by the code: the pressures in its stretch, and the worst, interior and depth in its stretch of the answers
+    -- QUESTION 3 of a set, by the code: the pressures in its stretch, and the worst, interior and depth in its
+    -- stretch of the answers
     pub question-3-set-code : (q : Answer) → stretch fieldCount s rs ≡ fields q → q .number ≡ 0 → (m : ℕ) → 1 ≤ m → (y : ℕ → ℤ) → Solves (single a s .cast) m y
         → (c : ℕ) → labelAt (a .labels) c ≡ 0 → natAbs (pos m *ᶻ field (stretch (manySize a) s ps) c -ᶻ y c) ≤ bound m (q .worst) (q .interior) (q .depth)
     question-3-set-code q stands h m l y sol c e =

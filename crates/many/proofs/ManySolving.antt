@@ -1,4 +1,5 @@
--- The entry point: what is known once no check before 7 fails, and what everything lent holds at the end. Assumes nothing.
+-- The entry point: what is known once no check before 7 fails, and what everything lent holds at the end. Assumes
+-- nothing.
 use Prim.Native.Nat.{ℕ, _+_, _-_, _*_, _≤_, _<_}
 use mathlib.Core.Path.{_≡_, refl, sym, ap, ap₂, _∙_}
 use mathlib.Core.Bool.{Bool, true, false, not, _&&_}

@@ -41,7 +41,8 @@ use Rattle.many_sets.specs.Sets.{Past, CastReady, SameSet, SameCall, SetsOf}
 use Rattle.many_sets.proofs.Setting.{five-passes}
 use Rattle.many.specs.ManySolve.{ManyChecked, manyFromSeven, ManyWorked}
 
--- ---- the same cast with every value 0: it passes all checks of a single call, so that what is known of such a cast is known of this one
+-- ---- the same cast with every value 0: it passes all checks of a single call, so that what is known of such a cast
+-- is known of this one
 not-so : (b : Bool) → b ≡ false → T b → ⊥
 not-so true e h = false≢true (sym e)
 not-so false e h = h

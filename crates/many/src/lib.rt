@@ -1,4 +1,5 @@
-// One cast with many sets (document 02, wish 1): the labels are checked and coarsened once, then each set is solved on the prepared cast.
+// One cast with many sets (document 02, wish 1): the labels are checked and coarsened once, then each set is solved
+// on the prepared cast.
 ghost use mathlib.Core.Path.{_≡_};
 ghost use Prim.Native.Nat.{_+_, _*_};
 ghost use lib.ListN.{length};
@@ -61,7 +62,8 @@ fn work(
     }
 }
 
-// Solves all sets. Nothing lent is changed by a refusal before 7; past it the needed part of each room is handed back as zeros.
+// Solves all sets. Nothing lent is changed by a refusal before 7; past it the needed part of each room is handed back
+// as zeros.
 pub fn solve_many(
     sides: Sides,
     labels: &[u8],

@@ -1,4 +1,5 @@
--- Each set of a call of many sets has exactly what its single call gives; so question 3 and what an accepted answer is hold of each set's answer. Assumes nothing.
+-- Each set of a call of many sets has exactly what its single call gives; so question 3 and what an accepted answer
+-- is hold of each set's answer. Assumes nothing.
 use Prim.Native.Nat.{ℕ, _<_, _≤_}
 use mathlib.Core.Path.{_≡_, refl, sym, ap, ap₂, subst, _∙_}
 use mathlib.Core.List.{List, [], append-nil}

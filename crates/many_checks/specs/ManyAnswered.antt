@@ -1,4 +1,5 @@
--- What a call of many sets hands back for one set: its answer as it stands in the answers, and its stretch of the pressures.
+-- What a call of many sets hands back for one set: its answer as it stands in the answers, and its stretch of the
+-- pressures.
 use Prim.Native.Nat.{ℕ, _<_}
 use mathlib.Core.Path.{_≡_}
 use Rattle.method.specs.declared.Answer.{Answer}
@@ -11,7 +12,8 @@ pub record AnswerOfSet (a : AskedMany) (s : ℕ) (r : Answer) : Type 0 where
   pub among : s < a .sets
   pub stands : stretch fieldCount s (solvingMany a .answers) ≡ fields r
 
--- that answer with the set's stretch of the pressures; the rooms are those of its single call, of which no theorem speaks
+-- that answer with the set's stretch of the pressures; the rooms are those of its single call, of which no theorem
+-- speaks
 unfoldable pub ofSet : AskedMany → ℕ → Answer → Solved
 ofSet a s r = record {
   answer = r;

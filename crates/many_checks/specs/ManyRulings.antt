@@ -1,4 +1,5 @@
--- The checks before 7 by what they look at: sides, labels, settings, the number of sets, and the lengths of what is lent.
+-- The checks before 7 by what they look at: sides, labels, settings, the number of sets, and the lengths of what is
+-- lent.
 use Prim.Native.Nat.{ℕ, _*_}
 use mathlib.Core.Bool.{Bool, not, _&&_, cond}
 use mathlib.Core.List.{List}

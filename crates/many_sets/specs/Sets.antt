@@ -32,7 +32,8 @@ pub record Past (g : Sides) (ls : List ℕ) (t : Settings) : Type 0 where
   pub air : eqb (interior g ls) 0 ≡ false
   pub none-sealed : sealed g ls ≡ Nowhere
 
--- the cast is prepared, once for all sets: labels and lists as `solve` prepares them, its air cells and depth, and a binary64 room of just the size needed
+-- the cast is prepared, once for all sets: labels and lists as `solve` prepares them, its air cells and depth, and a
+-- binary64 room of just the size needed
 pub record CastReady (g : Sides) (ls : List ℕ) (t : Settings) (of : Measured) (plan : Plan) (bytes words : List ℕ) (floats : ℕ) : Type 0 where
   pub past : Past g ls t
   pub measured : OfCast g ls of

@@ -1,4 +1,5 @@
-// One cast with many sets (document 02, wish 1), past check 7: each set on the prepared cast, its answer and its pressures into their own stretches.
+// One cast with many sets (document 02, wish 1), past check 7: each set on the prepared cast, its answer and its
+// pressures into their own stretches.
 ghost use mathlib.Core.Path.{_≡_};
 ghost use Prim.Native.Nat.{_+_, _≤_};
 ghost use lib.IntN.{pos};
@@ -59,7 +60,8 @@ fn put_answer(answers: &mut [i64], answer: Answer)
     );
 }
 
-// One set: check 5, and then its rounds. The labels and lists stay as they are, and nothing is asked of what the binary64 room holds.
+// One set: check 5, and then its rounds. The labels and lists stay as they are, and nothing is asked of what the
+// binary64 room holds.
 fn one_set(
     sides: Sides,
     labels: &[u8],
