@@ -345,11 +345,15 @@ use Rattle.method.specs.declared.Found.{Found}
 use Rattle.method.specs.declared.Found.the-variants.{Nowhere, At}
 use Rattle.method.specs.declared.Tick.{Tick}
 use Rattle.method.specs.declared.Tick.the-variants.{Whole, Refused}
-use Rattle.method.specs.Cast.{isAir, field, residual, depth, sealed}
-use Rattle.method.specs.Levels.{coarse, inBand, restricted, prolongated}
+use Rattle.method.specs.Cast.{isAir, field, residual}
+use Rattle.method.specs.Walks.{depth, sealed}
+use Rattle.method.specs.Levels.{coarse}
+use Rattle.method.specs.Transfers.{restricted, prolongated}
+use Rattle.method.specs.Cycle.{inBand}
 use Rattle.method.specs.Cycle.{ascending, descending, jacobi, residue, cycle}
-use Rattle.method.specs.Rounds.{tick}
-use Rattle.method.specs.Calls.{reading, writing}
+use Rattle.method.specs.Ticks.{tick}
+use Rattle.method.specs.Reading.{reading}
+use Rattle.method.specs.Writing.{writing}
 use Rattle.method.specs.Program.{program}
 use Rattle.method.specs.Computing.{computing}
 """

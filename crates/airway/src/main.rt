@@ -1,5 +1,7 @@
-// The program (document 01, "The program"): one session on standard input, its answer on standard output, with rooms for 1,000 cells.
-// An input may have any length: its first 5,095 bytes decide what is printed (`front-is-enough`, crates/prints), so no more are read.
+// The program (document 01, "The program"): one session on standard input, its answer on standard output, with rooms
+// for 1,000 cells.
+// An input may have any length: its first 5,095 bytes decide what is printed (`front-is-enough`, crates/prints), so no
+// more are read.
 use libc::STDIN_FILENO;
 use libc::STDOUT_FILENO;
 use respond::respond;
@@ -14,7 +16,8 @@ ghost use Rattle.airway.specs.Programs.{ProgramOf};
 // How many cells there is room for: `method`'s programRoom, by which all that is lent is measured.
 const LIMIT: usize = 1000;
 
-// The answer to the session whose front was read into the buffer is put at the front of the output, and its length comes back.
+// The answer to the session whose front was read into the buffer is put at the front of the output, and its length
+// comes back.
 fn answer(
     buffer: &[u8],
     got: usize,

@@ -1,5 +1,7 @@
-// The program for the greatest casts: one session on standard input, its answer on standard output, as document 01's program prints it, with rooms for 32,768 cells.
-// An input may have any length: its first 163,935 bytes decide what is printed (`front-is-enough-for`, crates/prints), so no more are read.
+// The program for the greatest casts: one session on standard input, its answer on standard output, as document 01's
+// program prints it, with rooms for 32,768 cells.
+// An input may have any length: its first 163,935 bytes decide what is printed (`front-is-enough-for`, crates/prints),
+// so no more are read.
 use libc::STDIN_FILENO;
 use libc::STDOUT_FILENO;
 use respond::respond;
@@ -16,7 +18,8 @@ const BUFFER: usize = 5 * LIMIT + 95;
 
 const PRINT: usize = 26 * LIMIT + 160;
 
-// The answer to the session whose front was read into the buffer is put at the front of the output, and its length comes back.
+// The answer to the session whose front was read into the buffer is put at the front of the output, and its length
+// comes back.
 fn answer(
     buffer: &[u8],
     got: usize,

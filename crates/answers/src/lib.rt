@@ -1,4 +1,5 @@
-// The makers of answers: every answer of the solver, the reader and the writer is made here, so a field more is a line in each.
+// The makers of answers: every answer of the solver, the reader and the writer is made here, so a field more is a line
+// in each.
 ghost use mathlib.Core.Path.{_≡_};
 ghost use Rattle.method.specs.Answers.{refusal as Answers·refusal, accepted as Answers·accepted, unfinished as Answers·unfinished};
 ghost use Rattle.answers.specs.Ends.{withoutWorst};

@@ -1,4 +1,5 @@
--- Laws of module `band`: a coarse cell's coordinates and its children's numbers, without a division and from the first child. Assumes nothing.
+-- Laws of module `band`: a coarse cell's coordinates and its children's numbers, without a division and from the first
+-- child. Assumes nothing.
 use Prim.Native.Nat.{ℕ, _+_, _-_, _*_, _/_, _%_, _≤_, _<_}
 use mathlib.Core.Path.{_≡_, refl, sym, ap, ap₂, _∙_}
 use mathlib.Core.Bool.{Bool, true, false, _&&_, cond}

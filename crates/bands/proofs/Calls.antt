@@ -1,4 +1,5 @@
--- What a caller of this crate's functions needs: that what they ask holds, and that what they promise is one result. Assumes nothing.
+-- What a caller of this crate's functions needs: that what they ask holds, and that what they promise is one result.
+-- Assumes nothing.
 use Prim.Native.Nat.{ℕ, _+_, _≤_}
 use mathlib.Core.Path.{_≡_, sym, _∙_}
 use mathlib.Core.List.{List}
@@ -6,7 +7,7 @@ use native.Mathlib.Omega.{arith}
 use lib.ListN.{length}
 use Rattle.method.specs.declared.Sides.{Sides}
 use Rattle.method.specs.Cast.{cells, labelAt}
-use Rattle.method.specs.Answers.{wordNeed}
+use Rattle.method.specs.Rooms.{wordNeed}
 use Rattle.theory.specs.Walks.{Walk}
 use Rattle.theory.specs.Levels.{sidesAt, labelsAt, cellsBefore, airBefore}
 use Rattle.theory.specs.Sides.{Fit}

@@ -1,4 +1,5 @@
--- Laws of module `lists`: the cells so far that pass a test stand in the room, wave by wave, and there is room for the next. Assumes nothing.
+-- Laws of module `lists`: the cells so far that pass a test stand in the room, wave by wave, and there is room for the
+-- next. Assumes nothing.
 use Prim.Native.Nat.{ℕ, zero, suc, _+_, _-_, _≤_, _<_}
 use mathlib.Core.Path.{_≡_, refl, sym, ap, ap₂, _∙_}
 use mathlib.Core.Bool.{Bool, true, false, cond, not, _&&_, false≢true}
@@ -15,7 +16,8 @@ use Rattle.laws.specs.Loops.{up}
 use Rattle.laws.specs.Lists.{kept, chosen}
 use Rattle.method.specs.declared.Sides.{Sides}
 use Rattle.method.specs.Cast.{cells, number, labelAt, isAir, judged, interior}
-use Rattle.method.specs.Levels.{halved, inBand}
+use Rattle.method.specs.Levels.{halved}
+use Rattle.method.specs.Cycle.{inBand}
 use Rattle.theory.specs.Waves.{strung, onWave, waveCell, waveLine, waveOf, waves}
 use Rattle.theory.specs.Sides.{Fit}
 use Rattle.theory.proofs.Numbers.{number-in}

@@ -11,7 +11,9 @@ use lib.ListN.{length, getD}
 use Rattle.laws.specs.Lists.{any}
 use Rattle.method.specs.declared.Sides.{Sides}
 use Rattle.method.specs.Cast.{cells, labelAt, isAir}
-use Rattle.method.specs.Levels.{halved, children, givenTo, hasOther, inBand}
+use Rattle.method.specs.Levels.{halved, children}
+use Rattle.method.specs.Transfers.{givenTo}
+use Rattle.method.specs.Cycle.{hasOther, inBand}
 use Rattle.theory.specs.Sides.{Fit}
 use Rattle.theory.proofs.Sizes.{halved-fit}
 use Rattle.grid.specs.declared.place.Spot.{Spot}

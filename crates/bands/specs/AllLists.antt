@@ -1,4 +1,5 @@
--- The lists of all levels in one room: for each level all its air, the band first; for the last one in the order in which it is swept.
+-- The lists of all levels in one room: for each level all its air, the band first; for the last one in the order in
+-- which it is swept.
 use Prim.Native.Nat.{ℕ, zero, suc, _+_, _<_, _≤_}
 use mathlib.Core.Path.{_≡_}
 use mathlib.Core.Bool.{cond}
@@ -8,7 +9,7 @@ use lib.ListN.{length, take, drop, set}
 use Rattle.laws.specs.Lists.{tab}
 use Rattle.method.specs.declared.Sides.{Sides}
 use Rattle.method.specs.Cast.{cells, interior}
-use Rattle.method.specs.Answers.{byteNeed}
+use Rattle.method.specs.Rooms.{byteNeed}
 use Rattle.theory.specs.Levels.{sidesAt, labelsAt, airBefore}
 use Rattle.theory.specs.Sides.{Fit}
 use Rattle.levels.specs.declared.sides.Levels.{Levels}
@@ -19,7 +20,8 @@ use Rattle.levels.specs.Levels.{levelsOf, base, startIn, sidesIn}
 use Rattle.levels.specs.AllLabels.{LabelsIn}
 use Rattle.bands.specs.Lists.{listOf, airOf}
 
--- of level k of count levels: what is swept, and all its air; and the air of the levels 0, 1, .. k - 1, one after the other
+-- of level k of count levels: what is swept, and all its air; and the air of the levels 0, 1, .. k - 1, one after the
+-- other
 unfoldable pub listAt : Sides → List ℕ → ℕ → ℕ → List ℕ
 listAt g ls count k = listOf (ltb (k + 1) count) (sidesAt g k) (labelsAt g ls k)
 

@@ -7,7 +7,7 @@ use lib.ListN.{length}
 use Rattle.laws.specs.Lists.{kept, chosen}
 use Rattle.method.specs.declared.Sides.{Sides}
 use Rattle.method.specs.Cast.{cells, isAir}
-use Rattle.method.specs.Levels.{inBand}
+use Rattle.method.specs.Cycle.{inBand}
 use Rattle.theory.specs.Waves.{waves}
 use Rattle.grid.specs.Entries.{entryOf}
 use Rattle.bands.specs.declared.lists.Counts.{Counts}

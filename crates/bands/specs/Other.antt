@@ -6,7 +6,8 @@ use mathlib.Core.List.{List}
 use lib.Dec.{ltb}
 use Rattle.method.specs.declared.Sides.{Sides}
 use Rattle.method.specs.Cast.{cells, number, isAir}
-use Rattle.method.specs.Levels.{halved, hasOther}
+use Rattle.method.specs.Levels.{halved}
+use Rattle.method.specs.Cycle.{hasOther}
 use Rattle.theory.specs.Sides.{Fit}
 use Rattle.grid.specs.declared.place.Spot.{Spot}
 use Rattle.levels.specs.Kin.{Near, childAt, parentAt}

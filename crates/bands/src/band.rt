@@ -4,7 +4,7 @@ ghost use Prim.Native.Nat.{_≤_, _<_};
 ghost use lib.Dec.{leb};
 ghost use lib.ListN.{length};
 ghost use Rattle.method.specs.Cast.{cells};
-ghost use Rattle.method.specs.Levels.{inBand};
+ghost use Rattle.method.specs.Cycle.{inBand};
 ghost use Rattle.theory.specs.Sides.{Fit};
 ghost use Rattle.levels.specs.Kin.{Near, Begun, childAt, parentAt, parentSpot, firstChild, childStep};
 ghost use Rattle.levels.specs.Rooms.{some};
@@ -12,7 +12,8 @@ ghost use Rattle.bands.specs.Other.{BandAsked, BlockAsked, AroundAsked, 
 use grid::place::Spot;
 use method::Sides;
 
-// The t-th of the eight coarse cells that give to the cell at s, or m, the number of coarse cells, outside the coarse box.
+// The t-th of the eight coarse cells that give to the cell at s, or m, the number of coarse cells, outside the coarse
+// box.
 fn parent(h: Sides, m: usize, s: Spot, t: usize) -> usize
     requires { ⌜ Fit h ⌝ }
     requires { ⌜ Near s ⌝ }
@@ -107,8 +108,8 @@ fn is_other(labels: &[u8], g: Sides, n: usize, s: Spot, first: usize, t: usize) 
     grid::near::label_at(labels, child_from(g, n, s, first, t)) != 0
 }
 
-// The corner of the block of cells around the cell at s, four a side, that are the children of the coarse cells that give to it; or n, the number of
-// cells, where one of these is outside the box.
+// The corner of the block of cells around the cell at s, four a side, that are the children of the coarse cells that
+// give to it; or n, the number of cells, where one of these is outside the box.
 fn corner(g: Sides, n: usize, s: Spot) -> usize
     requires { ⌜ Fit g ⌝ }
     requires { ⌜ Near s ⌝ }
@@ -149,7 +150,8 @@ fn block_other(labels: &[u8], g: Sides, h: Sides, s: Spot, first: usize, q: usiz
     labels[at] != 0
 }
 
-// Whether a coarse cell that gives to the cell at s has a child that isn't air, where all are in the box. Left at the first such child.
+// Whether a coarse cell that gives to the cell at s has a child that isn't air, where all are in the box. Left at the
+// first such child.
 fn in_block_other(labels: &[u8], g: Sides, h: Sides, s: Spot, first: usize) -> bool
     requires { ⌜ BlockAsked g h s first (length (now labels)) ⌝ }
     ensures { λ r. ⌜ r ≡ some (parentOther (now (labels .entry)) g h s) 8 ⌝ }

@@ -1,11 +1,11 @@
-// The entries of each level's air, one level after the other in the word room: first the cells that are smoothed, by ascending i + j + k,
-// then the others.
+// The entries of each level's air, one level after the other in the word room: first the cells that are smoothed, by
+// ascending i + j + k, then the others.
 ghost use mathlib.Core.Path.{_≡_};
 ghost use Prim.Native.Nat.{_+_, _≤_, _<_};
 ghost use lib.ListN.{length};
 ghost use Rattle.laws.specs.Lists.{kept, chosen};
 ghost use Rattle.method.specs.Cast.{cells, isAir, interior};
-ghost use Rattle.method.specs.Levels.{inBand};
+ghost use Rattle.method.specs.Cycle.{inBand};
 ghost use Rattle.theory.specs.Waves.{waveCell, waveLine, waveOf};
 ghost use Rattle.theory.specs.Sides.{Fit};
 ghost use Rattle.grid.specs.Entries.{entryOf};
@@ -262,7 +262,8 @@ fn air_list(words: &mut [u32], at: usize, labels: &[u8], g: Sides, band: bool) -
     }
 }
 
-// The list of level k of count levels, from place `at` on; on every level but the last its band is swept, on the last all its air.
+// The list of level k of count levels, from place `at` on; on every level but the last its band is swept, on the last
+// all its air.
 fn level_list(
     words: &mut [u32],
     at: usize,

@@ -17,9 +17,8 @@ use Rattle.laws.proofs.Lists.{getD-any}
 use Rattle.method.specs.declared.Sides.{Sides}
 use Rattle.method.specs.declared.Settings.{Settings}
 use Rattle.method.specs.declared.Found.{Found}
-use Rattle.method.specs.Cast.{Cast, between, cells, sidesFit, settingsFit, labelAt, widest, first, badLabel, badValue}
+use Rattle.method.specs.Cast.{Cast, between, cells, sidesFit, settingsFit, labelAt, widest, first, badLabel, badValue, labelFault, valueFault}
 use Rattle.method.specs.Answers.{Check, check, fault, verdict}
-use Rattle.method.specs.Calls.{labelFault, valueFault}
 use Rattle.theory.proofs.Firsts.{none-none, none-more, none-end, hit}
 use Rattle.checks.specs.Faults.{badLabelAt, badValueAt, cellRuling}
 use Rattle.checks.specs.Rulings.{rulingOf, rulingBy, firstOf}

@@ -8,15 +8,12 @@ use borrow.Author.Needs.{needs}
 use Rattle.method.specs.declared.Found.{Found}
 use Rattle.method.specs.declared.Found.the-variants.{Nowhere, At}
 use Rattle.method.specs.Answers.{Check, fault, Verdict, passed, refused, verdict}
+use Rattle.theory.proofs.Verdicts.{after, verdict-cons, fault-no, fault-yes}
 use Rattle.checks.specs.Rulings.{rulingOf, rulingBy, firstOf}
 use Rattle.checks.specs.declared.Ruling.{Ruling}
 use Rattle.checks.specs.declared.Ruling.the-variants.{Refused, Allowed}
 
 -- ---- one check more
-abbrev after : ℕ → Found → Verdict → Verdict
-after k (At p) v = refused k p
-after k Nowhere v = v
-
 by-found : (k : ℕ) (f : Found) (r : Ruling) → after k f (rulingOf r) ≡ rulingOf (firstOf (rulingBy k f) r)
 unfolding rulingOf firstOf rulingBy
 by-found k (At p) r = refl
@@ -58,30 +55,6 @@ ruled-none k (At p) e = absurd (omega (arith, ap allowing e))
 ruled-none k Nowhere e = refl
 
 module _ {A : Type 0} where
-  verdict-cons : (c : Check A) (cs : List (Check A)) (a : A) → verdict (c ∷ cs) a ≡ after (c .number) (c .fails a) (verdict cs a)
-  unfolding verdict
-  verdict-cons c cs a = go (c .fails a)
-    where
-      go : (f : Found) → _≡_ {A = Verdict} (elim f [ At place ↦ refused (c .number) place | Nowhere ↦ verdict cs a ]) (after (c .number) f (verdict cs a))
-      go (At p) = refl
-      go Nowhere = refl
-
-  pub fails-at : (c : Check A) (cs : List (Check A)) (a : A) (p : ℕ) → c .fails a ≡ At p → verdict (c ∷ cs) a ≡ refused (c .number) p
-  fails-at c cs a p e = verdict-cons c cs a ∙ ap (λ f. after (c .number) f (verdict cs a)) e
-
-  pub passes-on : (c : Check A) (cs : List (Check A)) (a : A) → c .fails a ≡ Nowhere → verdict (c ∷ cs) a ≡ verdict cs a
-  passes-on c cs a e = verdict-cons c cs a ∙ ap (λ f. after (c .number) f (verdict cs a)) e
-
-  -- what is alike to every check has the same verdict
-  abbrev pub Agree : List (Check A) → A → A → Type 0
-  Agree [] a b = Unit {0}
-  Agree (c ∷ cs) a b = (c .fails a ≡ c .fails b) × Agree cs a b
-
-  pub verdict-agree : (cs : List (Check A)) (a b : A) → Agree cs a b → verdict cs a ≡ verdict cs b
-  unfolding verdict
-  verdict-agree [] a b h = refl
-  verdict-agree (c ∷ cs) a b h = verdict-cons c cs a ∙ ap₂ (after (c .number)) (h .0) (verdict-agree cs a b (h .1)) ∙ sym (verdict-cons c cs b)
-
   -- the rulings of the checks, the earlier first, are their verdict
   pub ruling-none : (a : A) → verdict [] a ≡ rulingOf Allowed
   unfolding verdict rulingOf
@@ -93,14 +66,6 @@ module _ {A : Type 0} where
 
   pub ruling-last : (c : Check A) (a : A) (f : Found) → c .fails a ≡ f → verdict (c ∷ []) a ≡ rulingOf (rulingBy (c .number) f)
   ruling-last c a f e = ruling-more c [] a f Allowed e (ruling-none a) ∙ ap rulingOf (last-ruling (rulingBy (c .number) f))
-
-pub fault-no : (b : Bool) → b ≡ true → fault (not b) ≡ Nowhere
-unfolding fault
-fault-no b e = rw e
-
-pub fault-yes : (b : Bool) → b ≡ false → fault (not b) ≡ At 0
-unfolding fault
-fault-yes b e = rw e
 
 -- ---- the code's cases
 pub unless-well : (b : Bool) → b ≡ true → Nowhere ≡ fault (not b)

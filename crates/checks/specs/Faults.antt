@@ -1,4 +1,5 @@
--- Checks 4 and 5 cell by cell, in method's words: its `badLabel` and `badValue` are the first such cell (proofs/CheckLaws.antt).
+-- Checks 4 and 5 cell by cell, in method's words: its `badLabel` and `badValue` are the first such cell
+-- (proofs/CheckLaws.antt).
 use mathlib.Core.Bool.{Bool}
 use mathlib.Core.List.{List}
 use Prim.Native.Nat.{ℕ}

@@ -1,4 +1,5 @@
-// What is checked of a cast that is handed in as slices, and how checks in a row give one ruling: for the session and for the solver.
+// What is checked of a cast that is handed in as slices, and how checks in a row give one ruling: for the session and
+// for the solver.
 pub mod cast;
 pub mod rule;
 

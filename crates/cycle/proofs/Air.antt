@@ -1,4 +1,5 @@
--- The list of a level's air holds the entry of each air cell, and of no other: what the kernels over entries ask. Assumes nothing.
+-- The list of a level's air holds the entry of each air cell, and of no other: what the kernels over entries ask.
+-- Assumes nothing.
 use Prim.Native.Nat.{ℕ, zero, suc, _+_, _*_, _≤_, _<_, suc-le-suc}
 use mathlib.Core.Path.{_≡_, refl, sym, ap, _∙_}
 use mathlib.Core.Logic.{⊎-elim}

@@ -1,5 +1,5 @@
--- What a caller of `cycle` needs: that the rooms which `all_labels` and `all_lists` leave are prepared, what a room is with a zero at its end,
--- and that the promise is one result. Assumes nothing.
+-- What a caller of `cycle` needs: that the rooms which `all_labels` and `all_lists` leave are prepared, what a room is
+-- with a zero at its end, and that the promise is one result. Assumes nothing.
 use Prim.Native.Nat.{ℕ, zero, suc, _+_, _-_, _*_, _≤_, _<_}
 use mathlib.Core.Path.{_≡_, refl, sym, ap, ap₂, subst, _∙_}
 use mathlib.Core.Logic.{⊎-elim}
@@ -17,7 +17,7 @@ use Rattle.laws.proofs.Lists.{getD-tab}
 use Rattle.laws.proofs.Fill.{part-take}
 use Rattle.method.specs.declared.Sides.{Sides}
 use Rattle.method.specs.Cast.{cells}
-use Rattle.method.specs.Levels.{value}
+use Rattle.method.specs.Transfers.{value}
 use Rattle.theory.specs.Levels.{sidesAt, labelsAt, airBefore}
 use Rattle.theory.specs.Sides.{Fit}
 use Rattle.theory.proofs.Sides.{fits}

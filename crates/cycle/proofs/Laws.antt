@@ -23,8 +23,9 @@ use Rattle.laws.proofs.Fill.{up-same, part-take, part-drop}
 use Rattle.laws.proofs.Fills.{up-keeps, up-front}
 use Rattle.method.specs.declared.Sides.{Sides}
 use Rattle.method.specs.Cast.{cells, isAir}
-use Rattle.method.specs.Levels.{value, halved, coarse, inBand, restricted}
-use Rattle.method.specs.Cycle.{times, sweeps, ascending, descending, jacobi, residue, zeros, coarsest, downstroke}
+use Rattle.method.specs.Levels.{halved, coarse}
+use Rattle.method.specs.Transfers.{value, restricted}
+use Rattle.method.specs.Cycle.{inBand, times, sweeps, ascending, descending, jacobi, residue, zeros, coarsest, downstroke}
 use Rattle.theory.specs.Sides.{Fit}
 use Rattle.theory.specs.Quiet.{Quiet}
 use Rattle.theory.proofs.Children.{band-air}

@@ -1,4 +1,5 @@
--- A level in the lent rooms, and the next: what a cycle's calls ask, and what it makes of their promises. Assumes nothing.
+-- A level in the lent rooms, and the next: what a cycle's calls ask, and what it makes of their promises. Assumes
+-- nothing.
 use Prim.Native.Nat.{ℕ, suc, _+_, _-_, _*_, _≤_, _<_}
 use mathlib.Core.Path.{_≡_, refl, sym, ap, ap₂, _∙_}
 use mathlib.Core.List.{List, [], _++_}
@@ -17,8 +18,9 @@ use Rattle.laws.proofs.Lists.{length-tab}
 use Rattle.laws.proofs.Fill.{part-take}
 use Rattle.method.specs.declared.Sides.{Sides}
 use Rattle.method.specs.Cast.{cells, isAir}
-use Rattle.method.specs.Levels.{halved, coarse, inBand, restricted}
-use Rattle.method.specs.Cycle.{cycle, coarsest, downstroke, upstroke, corrected, residue, zeros}
+use Rattle.method.specs.Levels.{halved, coarse}
+use Rattle.method.specs.Transfers.{restricted}
+use Rattle.method.specs.Cycle.{inBand, cycle, coarsest, downstroke, upstroke, corrected, residue, zeros}
 use Rattle.theory.specs.Levels.{sidesAt, labelsAt, cellsBefore}
 use Rattle.theory.specs.Quiet.{Quiet}
 use Rattle.theory.proofs.Quiet.{quiet-cycle, quiet-corrected}

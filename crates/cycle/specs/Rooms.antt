@@ -6,7 +6,7 @@ use lib.ListN.{length, getD, take, drop}
 use lib.Ieee.{Float}
 use Rattle.method.specs.declared.Sides.{Sides}
 use Rattle.method.specs.Cast.{cells}
-use Rattle.method.specs.Levels.{restricted}
+use Rattle.method.specs.Transfers.{restricted}
 use Rattle.method.specs.Cycle.{cycle, residue, corrected}
 use Rattle.theory.specs.Levels.{sidesAt, labelsAt, cellsBefore}
 use Rattle.theory.specs.Sides.{Fit}

@@ -9,8 +9,8 @@ use lib.Ieee.{Float}
 use Rattle.laws.specs.Binary64.{+0}
 use Rattle.method.specs.declared.Sides.{Sides}
 use Rattle.method.specs.Cast.{cells}
-use Rattle.method.specs.Levels.{value, inBand, restricted}
-use Rattle.method.specs.Cycle.{times, sweeps, descending, jacobi, residue}
+use Rattle.method.specs.Transfers.{value, restricted}
+use Rattle.method.specs.Cycle.{inBand, times, sweeps, descending, jacobi, residue}
 use Rattle.theory.specs.Waves.{waves}
 use Rattle.grid.specs.Entries.{entryOf}
 use Rattle.smooth.specs.Fields.{u-of, b-of}
@@ -45,7 +45,8 @@ sweptRoom k forward g ls cs e = times k (swept forward g ls cs (b-of (cells g) e
 abbrev pub coarsestTurn : Sides → List ℕ → List ℕ → ℕ → List Float → List Float
 coarsestTurn g ls cs i e = sweepTurn (ltb i 8) g ls cs e
 
--- from room e to room x, of fields of n elements: u becomes v; b, all beyond m elements and the length stay. What lies between isn't said.
+-- from room e to room x, of fields of n elements: u becomes v; b, all beyond m elements and the length stay. What lies
+-- between isn't said.
 pub record Put (n m : ℕ) (v e x : List Float) : Type 0 where
   pub u : u-of n x ≡ v
   pub b : b-of n x ≡ b-of n e

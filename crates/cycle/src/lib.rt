@@ -1,13 +1,13 @@
-// The V-cycle in binary64, in the lent rooms: each level works on u, b and t at the front of its part of the room, and lends
-// what follows to the next coarser level. The last element of all these rooms is the same one, and is zero.
+// The V-cycle in binary64, in the lent rooms: each level works on u, b and t at the front of its part of the room, and
+// lends what follows to the next coarser level. The last element of all these rooms is the same one, and is zero.
 ghost use mathlib.Core.Path.{_≡_};
 ghost use mathlib.Core.List.{_++_};
 ghost use Prim.Native.Nat.{_+_, _-_, _*_, _≤_, _<_};
 ghost use lib.ListN.{length, set, drop};
 ghost use Rattle.laws.specs.Binary64.{+0};
 ghost use Rattle.method.specs.Cast.{cells, isAir};
-ghost use Rattle.method.specs.Levels.{value, inBand};
-ghost use Rattle.method.specs.Cycle.{sweeps, zeros, jacobi, residue, coarsest, downstroke};
+ghost use Rattle.method.specs.Transfers.{value};
+ghost use Rattle.method.specs.Cycle.{inBand, sweeps, zeros, jacobi, residue, coarsest, downstroke};
 ghost use Rattle.theory.specs.Quiet.{Quiet};
 ghost use Rattle.grid.specs.Entries.{cellsOf};
 ghost use Rattle.levels.specs.Levels.{base};
@@ -30,7 +30,8 @@ pub fn end_in_zero(room: &mut [f64])
     room[last] = 0.0;
 }
 
-// One sweep over a list of entries, forward or against the list's order. The labels say what the entries are of, and are not read.
+// One sweep over a list of entries, forward or against the list's order. The labels say what the entries are of, and
+// are not read.
 fn sweep(room: &mut [f64], labels: &[u8], list: &[u32], g: Sides, forward: bool)
     requires { ⌜ EntryLevel g (now labels) (now list) (now room) ⌝ }
     ensures { λ _. ⌜ value (now (room .exit)) (length (now (room .exit)) - 1) ≡ +0 ⌝ }

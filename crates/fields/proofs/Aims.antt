@@ -17,7 +17,7 @@ use Rattle.laws.proofs.Fill.{tab-same, part-take, part-drop}
 use Rattle.laws.proofs.Fills.{filled, tab-take}
 use Rattle.method.specs.declared.Sides.{Sides}
 use Rattle.method.specs.Cast.{cells, isAir}
-use Rattle.method.specs.Levels.{value, inAir}
+use Rattle.method.specs.Transfers.{value, inAir}
 use Rattle.method.specs.Rounds.{direction, finite}
 use Rattle.theory.specs.Quiet.{Quiet}
 use Rattle.grid.specs.Entries.{cellsOf}

@@ -1,4 +1,5 @@
--- Fields that are +0 off air stay so under the updates, which therefore go over all cells; A p over a list that covers the air. Assumes nothing.
+-- Fields that are +0 off air stay so under the updates, which therefore go over all cells; A p over a list that covers
+-- the air. Assumes nothing.
 use Prim.Native.Nat.{ℕ, _+_, _-_, _*_, _%_, _≤_, _<_}
 use mathlib.Core.Path.{_≡_, refl, sym, ap, ap₂, _∙_}
 use mathlib.Core.Bool.{Bool, true, false, cond, false≢true}
@@ -21,7 +22,7 @@ use Rattle.laws.proofs.Fill.{filled, tab-same, part-take}
 use Rattle.laws.proofs.Zeros.{dot-zeros}
 use Rattle.method.specs.declared.Sides.{Sides}
 use Rattle.method.specs.Cast.{cells, isAir}
-use Rattle.method.specs.Levels.{value, inAir}
+use Rattle.method.specs.Transfers.{value, inAir}
 use Rattle.method.specs.Cycle.{applied}
 use Rattle.method.specs.Rounds.{dot, finite}
 use Rattle.theory.specs.Quiet.{Quiet}

@@ -15,14 +15,15 @@ use Rattle.laws.proofs.Lists.{length-tab}
 use Rattle.laws.proofs.Fill.{filled, tab-same}
 use Rattle.method.specs.declared.Sides.{Sides}
 use Rattle.method.specs.Cast.{cells, isAir}
-use Rattle.method.specs.Levels.{inAir}
+use Rattle.method.specs.Transfers.{inAir}
 use Rattle.method.specs.Cycle.{zeros}
 use Rattle.method.specs.Rounds.{rightSide}
 use Rattle.sources.specs.Sources.{wholeSide}
 use Rattle.fields.specs.Fields.{z-of}
 use Rattle.fields.specs.Turns.{turn, loadValue, loadTurn}
 
--- ---- a field that begins at k becomes h, cell after cell: f reads what no earlier turn has stored, and at first it is h
+-- ---- a field that begins at k becomes h, cell after cell: f reads what no earlier turn has stored, and at first it is
+-- h
 made : (g : Sides) (ls : List ℕ) (k : ℕ) (f : ℕ → List Float → Float) (h : ℕ → Float) (s : List Float)
     → k + cells g ≤ length s
     → ((c : ℕ) (r : List Float) → c < cells g → take k r ≡ take k s → drop (k + c) r ≡ drop (k + c) s → f c r ≡ f c s)

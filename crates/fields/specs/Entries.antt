@@ -7,7 +7,7 @@ use lib.Ieee.{Float}
 use Rattle.laws.specs.Binary64.{_⊕_, _⊖_, _⊗_}
 use Rattle.method.specs.declared.Sides.{Sides}
 use Rattle.method.specs.Cast.{cells}
-use Rattle.method.specs.Levels.{value, inAir}
+use Rattle.method.specs.Transfers.{value, inAir}
 use Rattle.method.specs.Cycle.{applied}
 use Rattle.method.specs.Rounds.{direction}
 use Rattle.fields.specs.Fields.{x-of, p-of, z-of, r-of}

@@ -1,4 +1,5 @@
-// The same fields with no label read: A p over entries, and dots and updates over all cells, where the fields are +0.0 off air.
+// The same fields with no label read: A p over entries, and dots and updates over all cells, where the fields are +0.0
+// off air.
 ghost use mathlib.Core.Path.{_≡_};
 ghost use mathlib.Core.Bool.{true};
 ghost use mathlib.Core.List.{List, _++_};
@@ -7,7 +8,7 @@ ghost use lib.ListN.{length, take, drop};
 ghost use Rattle.laws.specs.Binary64.{_⊕_, _⊖_, _⊗_, +0};
 ghost use Rattle.method.specs.declared.Sides.{Sides};
 ghost use Rattle.method.specs.Cast.{cells};
-ghost use Rattle.method.specs.Levels.{value, inAir};
+ghost use Rattle.method.specs.Transfers.{value, inAir};
 ghost use Rattle.method.specs.Cycle.{applied};
 ghost use Rattle.method.specs.Rounds.{dot, finite};
 ghost use Rattle.theory.specs.Quiet.{Quiet};
@@ -169,7 +170,8 @@ fn take_t(room: &mut [f64], n: usize)
     }
 }
 
-// The new direction into p by way of t, whatever beta is: an infinite beta makes a NaN of what isn't air, so only entries' cells are written.
+// The new direction into p by way of t, whatever beta is: an infinite beta makes a NaN of what isn't air, so only
+// entries' cells are written.
 fn aim_by_list(room: &mut [f64], list: &[u32], n: usize, done: u32, beta: f64)
     requires { ⌜ InCells n (now list) ⌝ }
     requires { ⌜ 5 * n ≤ length (now room) ⌝ }

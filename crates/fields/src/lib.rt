@@ -1,5 +1,5 @@
-// What a round of conjugate gradients does to the fields, in a room that holds x, p, z, r and t, one element a cell each, and
-// what follows: the start, and the direction at one cell.
+// What a round of conjugate gradients does to the fields, in a room that holds x, p, z, r and t, one element a cell
+// each, and what follows: the start, and the direction at one cell.
 ghost use mathlib.Core.Path.{_≡_};
 ghost use mathlib.Core.List.{_++_};
 ghost use Prim.Native.Nat.{_*_, _<_};

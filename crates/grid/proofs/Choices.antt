@@ -1,4 +1,5 @@
--- The meaning's choices along the three axes are places: the cell at coordinates counted from one, or the number of cells. Assumes nothing.
+-- The meaning's choices along the three axes are places: the cell at coordinates counted from one, or the number of
+-- cells. Assumes nothing.
 use Prim.Native.Nat.{ℕ, _+_, _-_, _*_, _<_, _≤_}
 use mathlib.Core.Path.{_≡_, refl, ap, ap₂, _∙_}
 use mathlib.Core.Bool.{Bool, true, false, _&&_, cond}

@@ -1,4 +1,5 @@
--- Laws of module `near`: a label inside and outside, a step along an axis as the code tests it, the six cells. Assumes nothing.
+-- Laws of module `near`: a label inside and outside, a step along an axis as the code tests it, the six cells. Assumes
+-- nothing.
 use mathlib.Core.Path.{_≡_, refl, sym, _∙_}
 use mathlib.Core.Bool.{true, false}
 use mathlib.Core.List.{List, [], _∷_}

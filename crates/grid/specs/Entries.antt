@@ -1,4 +1,5 @@
--- Entries: a word that holds a cell (15 bits), for each of its faces whether the cell across it is air (6 bits, in the order -x, +x, -y, +y, -z, +z), and d.
+-- Entries: a word that holds a cell (15 bits), for each of its faces whether the cell across it is air (6 bits, in the
+-- order -x, +x, -y, +y, -z, +z), and d.
 use Prim.Native.Nat.{ℕ, _+_, _*_, _%_}
 use mathlib.Core.Bool.{Bool, cond}
 use mathlib.Core.List.{List, [], _∷_, map}

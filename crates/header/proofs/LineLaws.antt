@@ -16,7 +16,8 @@ use lib.ListN.{length, getD, take, drop, length-drop, drop-of-length-le}
 use lib.Seq.{drop-cons, drop-drop, take-all}
 use Rattle.laws.specs.Text.{text}
 use Rattle.method.specs.Cast.{between}
-use Rattle.method.specs.Form.{after, digits, isDigit, isNumber, valueOf, closed, numberLine, orderLine}
+use Rattle.method.specs.Numbers.{digits, isDigit, isNumber, valueOf}
+use Rattle.method.specs.Form.{after, closed, numberLine, orderLine}
 use Rattle.method.specs.OldForm.{numberTo}
 use Rattle.theory.proofs.Lines.{line-to}
 use Rattle.header.specs.Lines.{Starts, leftIf, LineOf, lineOf, taken}

@@ -19,7 +19,8 @@ pub enum LineRead {
     Value(u32, usize),
 }
 
-// Three lines of numbers, read: the number of the first that is not of the form, or the values and how many bytes they took.
+// Three lines of numbers, read: the number of the first that is not of the form, or the values and how many bytes they
+// took.
 enum ThreeRead {
     Wrong(u32),
     Values(u32, u32, u32, usize),

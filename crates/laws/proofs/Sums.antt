@@ -1,5 +1,6 @@
--- Sums of integers over 0, .., n - 1: equal and larger terms, sums of sums, a factor, a negation, the exchange of two sums, one term of a sum that has no
--- negative term, and `anti`: a sum over all pairs of a quantity that changes its sign with the pair's order is 0. Assumes nothing.
+-- Sums of integers over 0, .., n - 1: equal and larger terms, sums of sums, a factor, a negation, the exchange of two
+-- sums, one term of a sum that has no negative term, and `anti`: a sum over all pairs of a quantity that changes its
+-- sign with the pair's order is 0. Assumes nothing.
 use mathlib.Core.Path.{_≡_, refl, sym, ap, ap₂, _∙_}
 use mathlib.Core.Logic.{⊎-elim}
 use Prim.Native.Nat.{ℕ, zero, suc, _<_}

@@ -1,5 +1,6 @@
--- ℤ by differences of naturals, so that `omega` does its algebra. `P z` and `M z` are z's positive and negative part. `Lin z` is z written as a
--- difference p - m; `lin` is the set by which `search` writes a sum, a product, a negation so. Assumes nothing.
+-- ℤ by differences of naturals, so that `omega` does its algebra. `P z` and `M z` are z's positive and negative part.
+-- `Lin z` is z written as a difference p - m; `lin` is the set by which `search` writes a sum, a product, a negation
+-- so. Assumes nothing.
 use mathlib.Core.Path.{_≡_, refl, ap, _∙_}
 use mathlib.Core.Bool.{Bool, true, false, not, cond}
 use Prim.Native.Nat.{ℕ, zero, suc, _+_, _*_, _-_, _<_, _≤_, min}

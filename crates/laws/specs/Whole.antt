@@ -1,4 +1,5 @@
--- The operations of ℤ, shut: `search` and `simp` tell a sum by its head, where the library's `_+ℤ_` unfolds to its cases.
+-- The operations of ℤ, shut: `search` and `simp` tell a sum by its head, where the library's `_+ℤ_` unfolds to its
+-- cases.
 use lib.IntN.{ℤ, negℤ, _+ℤ_, _*ℤ_}
 
 infixl 60 _+ᶻ_ _-ᶻ_

@@ -1,4 +1,5 @@
--- What a caller of this crate's functions needs: that what they ask holds, and where each level's labels then stand. Assumes nothing.
+-- What a caller of this crate's functions needs: that what they ask holds, and where each level's labels then stand.
+-- Assumes nothing.
 use Prim.Native.Nat.{ℕ, zero, suc, _+_, _-_, _≤_, _<_}
 use mathlib.Core.Path.{_≡_, refl, sym, ap, subst, _∙_}
 use mathlib.Core.Logic.{⊎-elim}
@@ -10,7 +11,7 @@ use lib.Seq.{take-append-le, drop-append-le, drop-at, take-all}
 use Rattle.laws.specs.Lists.{tab}
 use Rattle.method.specs.declared.Sides.{Sides}
 use Rattle.method.specs.Cast.{cells}
-use Rattle.method.specs.Answers.{byteNeed}
+use Rattle.method.specs.Rooms.{byteNeed}
 use Rattle.theory.specs.Levels.{sidesAt, labelsAt, cellsBefore}
 use Rattle.theory.specs.Sides.{Fit}
 use Rattle.theory.proofs.Kept.{length-kept}

@@ -1,4 +1,5 @@
--- Laws of children and parents: the meaning's lists of them are places, eight each, and the coarse label counts them up. Assumes nothing.
+-- Laws of children and parents: the meaning's lists of them are places, eight each, and the coarse label counts them
+-- up. Assumes nothing.
 use Prim.Native.Nat.{ℕ, zero, suc, _+_, _-_, _*_, _/_, _%_, _≤_}
 use mathlib.Core.Path.{_≡_, refl, sym, ap, ap₂, _∙_}
 use mathlib.Core.Bool.{Bool, true, false, _||_, cond}
@@ -11,7 +12,8 @@ use Rattle.laws.specs.Lists.{tab, any}
 use Rattle.laws.proofs.Loops.{Up, up-none, up-more, up-end}
 use Rattle.method.specs.declared.Sides.{Sides}
 use Rattle.method.specs.Cast.{axes, along, cells, labelAt, isAir, isOpening}
-use Rattle.method.specs.Levels.{halved, Halving, halvings, Drawn, placed, axisWeight, choice, choices, children, givenTo, coarseLabel}
+use Rattle.method.specs.Levels.{halved, Halving, halvings, Drawn, placed, choice, choices, children, coarseLabel}
+use Rattle.method.specs.Transfers.{axisWeight, givenTo}
 use Rattle.theory.specs.Sides.{Fit, x-axis, y-axis, z-axis}
 use Rattle.theory.proofs.Sizes.{halved-fit}
 use Rattle.grid.specs.declared.place.Spot.{Spot}

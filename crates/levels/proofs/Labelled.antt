@@ -1,4 +1,5 @@
--- Laws of module `labels`: each level's labels from those of the level before it, one after the other in one room. Assumes nothing.
+-- Laws of module `labels`: each level's labels from those of the level before it, one after the other in one room.
+-- Assumes nothing.
 use Prim.Native.Nat.{ℕ, zero, suc, _+_, _-_, _≤_, _<_}
 use mathlib.Core.Path.{_≡_, refl, sym, ap, ap₂, _∙_}
 use mathlib.Core.List.{List}
@@ -14,7 +15,7 @@ use Rattle.laws.proofs.Lists.{length-tab}
 use Rattle.method.specs.declared.Sides.{Sides}
 use Rattle.method.specs.Cast.{cells}
 use Rattle.method.specs.Levels.{halved, coarseLabel, coarse}
-use Rattle.method.specs.Answers.{byteNeed}
+use Rattle.method.specs.Rooms.{byteNeed}
 use Rattle.theory.specs.Levels.{sidesAt, labelsAt, cellsBefore}
 use Rattle.theory.specs.Sides.{Fit}
 use Rattle.theory.proofs.Sides.{fits}

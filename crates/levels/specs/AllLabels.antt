@@ -6,7 +6,7 @@ use lib.ListN.{take, drop, set}
 use Rattle.method.specs.declared.Sides.{Sides}
 use Rattle.method.specs.Cast.{cells}
 use Rattle.method.specs.Levels.{halved, coarseLabel, coarse}
-use Rattle.method.specs.Answers.{byteNeed}
+use Rattle.method.specs.Rooms.{byteNeed}
 use Rattle.theory.specs.Levels.{sidesAt, labelsAt, cellsBefore}
 use Rattle.theory.specs.Sides.{Fit}
 use Rattle.levels.specs.declared.sides.Levels.{Levels}
@@ -22,7 +22,8 @@ allLabels g ls (suc k) = allLabels g ls k ++ labelsAt g ls k
 pub record LabelsIn (g : Sides) (ls : List ℕ) (count : ℕ) (bytes : List ℕ) : Type 0 where
   pub at : (k : ℕ) → k < count → take (cells (sidesAt g k)) (drop (cellsBefore g k) bytes) ≡ labelsAt g ls k
 
--- ---- coarse cell c of the level of sides g and n cells that starts at a, and all of them; then the level after level k
+-- ---- coarse cell c of the level of sides g and n cells that starts at a, and all of them; then the level after level
+-- k
 unfoldable pub coarsenStep : Sides → ℕ → ℕ → ℕ → List ℕ → List ℕ
 coarsenStep g a n c e = set e (a + n + c) (coarseLabel g (take n (drop a e)) c)
 

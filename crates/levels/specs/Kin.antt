@@ -1,4 +1,5 @@
--- The cells of a level and those of the next, by coordinates: children and parents as places, and how a child's label counts.
+-- The cells of a level and those of the next, by coordinates: children and parents as places, and how a child's label
+-- counts.
 use Prim.Native.Nat.{ℕ, _+_, _-_, _*_, _/_, _%_, _≤_}
 use mathlib.Core.Bool.{Bool, _&&_, cond}
 use lib.Dec.{eqb, ltb}

@@ -1,4 +1,5 @@
--- The cycle run again; what the calls of a run ask, and its result; what the exported calls make of it. Assumes nothing.
+-- The cycle run again; what the calls of a run ask, and its result; what the exported calls make of it. Assumes
+-- nothing.
 use Prim.Native.Nat.{ℕ, zero, suc, _+_, _-_, _*_, _≤_, _<_}
 use mathlib.Core.Path.{_≡_, refl, sym, ap, _∙_}
 use mathlib.Core.Bool.{Bool, true}
@@ -19,8 +20,8 @@ use Rattle.method.specs.declared.Tick.{Tick}
 use Rattle.method.specs.declared.Tick.the-variants.{Whole, Refused}
 use Rattle.method.specs.Cast.{cells, sidesFit, judged, interior}
 use Rattle.method.specs.Cycle.{cycle}
-use Rattle.method.specs.Rounds.{tick}
-use Rattle.method.specs.Answers.{byteNeed}
+use Rattle.method.specs.Ticks.{tick}
+use Rattle.method.specs.Rooms.{byteNeed}
 use Rattle.theory.specs.Levels.{sidesAt, labelsAt, cellsBefore, airBefore}
 use Rattle.theory.specs.Sides.{Fit}
 use Rattle.theory.proofs.Sides.{fit, fits}

@@ -8,24 +8,26 @@ use lib.IntN.{ℤ}
 use Rattle.method.specs.declared.Sides.{Sides}
 use Rattle.method.specs.declared.Found.{Found}
 use Rattle.method.specs.declared.Found.the-variants.{Nowhere, At}
-use Rattle.method.specs.Cast.{cells, sealed}
-use Rattle.method.specs.Cast as Cast
+use Rattle.method.specs.Cast.{cells}
+use Rattle.method.specs.Walks.{sealed}
+use Rattle.method.specs.Walks as Cast
 use Rattle.method.specs.declared.Tick.{Tick}
 use Rattle.method.specs.declared.Tick.the-variants.{Whole, Refused}
 use Rattle.method.specs.Cycle.{cycle}
-use Rattle.method.specs.Rounds.{tick}
+use Rattle.method.specs.Ticks.{tick}
 use Rattle.method.specs.declared.Settings.{Settings}
 use Rattle.method.specs.OldForm.{oldReading}
 use Rattle.old_read.specs.OldReads.{oldAsked}
 use Rattle.puts.specs.Puts as Put
-use Rattle.method.specs.Answers.{byteNeed}
+use Rattle.method.specs.Rooms.{byteNeed}
 use Rattle.theory.specs.Sides.{Fit}
 use Rattle.smooth.specs.Fields.{u-of, b-of}
 use Rattle.library_tests.specs.declared.Walk.{Walk}
 use Rattle.library_tests.specs.declared.Ticked.{Ticked}
 
--- one label a cell, and room for the labels, the lists and the fields of that many levels. A cast here need not have an opening, so the lists may take
--- as many words as the levels have cells. One element of the room is spare: its last, which is the zero that entries read.
+-- one label a cell, and room for the labels, the lists and the fields of that many levels. A cast here need not have an
+-- opening, so the lists may take as many words as the levels have cells. One element of the room is spare: its last,
+-- which is the zero that entries read.
 pub record Asked (g : Sides) (count labels bytes words room : ℕ) : Type 0 where
   pub fit : Fit g
   pub least : 1 ≤ count
@@ -58,7 +60,8 @@ tickAs Refused is value = is ≡ 0
 pub record TickOf (x : Float) (r : Ticked) : Type 0 where
   pub is : tickAs (tick x) (r .whole) (r .value)
 
--- THE PROMISE of quetz_test_old_labels: where the output is long enough, the label part stands at its front, and its length comes back
+-- THE PROMISE of quetz_test_old_labels: where the output is long enough, the label part stands at its front, and its
+-- length comes back
 abbrev pub labelPart : Settings → List ℕ → ℕ → List ℕ
 labelPart t bytes room = oldReading (oldAsked t bytes room) .labels
 

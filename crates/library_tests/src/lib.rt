@@ -1,4 +1,5 @@
-// What the comparisons call through C and no user needs: the cycle, the walks, ticks and an old session's label part by themselves. Linked into compare/harness.c alone.
+// What the comparisons call through C and no user needs: the cycle, the walks, ticks and an old session's label part by
+// themselves. Linked into compare/harness.c alone.
 ghost use mathlib.Core.Path.{_≡_};
 ghost use Prim.Native.Nat.{_-_};
 ghost use lib.ListN.{length};
@@ -19,7 +20,8 @@ use method::Settings;
 use method::Sides;
 use method::Tick;
 
-// What a walk through a cast found: whether the cast and the room fit (else all is 0), depth, and the first sealed cell if there is one.
+// What a walk through a cast found: whether the cast and the room fit (else all is 0), depth, and the first sealed cell
+// if there is one.
 #[repr(C)]
 pub struct Walk {
     pub fits: u32,
@@ -121,7 +123,8 @@ fn fitted_cycle(
     1
 }
 
-// u from b by the cycle of so many levels, run so many times, on a room that starts with u and b: 1; or 0 where something does not fit.
+// u from b by the cycle of so many levels, run so many times, on a room that starts with u and b: 1; or 0 where
+// something does not fit.
 #[no_mangle]
 pub extern "C" fn quetz_test_cycle(
     sides: Sides,
@@ -204,7 +207,8 @@ pub extern "C" fn quetz_test_tick(x: f64) -> Ticked
     }
 }
 
-// The label part of an old session that is read with room for so many values, copied to the front of the output: how long it is, or 0 where the output is too short.
+// The label part of an old session that is read with room for so many values, copied to the front of the output: how
+// long it is, or 0 where the output is too short.
 #[no_mangle]
 pub extern "C" fn quetz_test_old_labels(
     settings: Settings,

@@ -9,7 +9,7 @@ use lib.Ieee.{Float}
 use Rattle.laws.specs.Whole.{_-ᶻ_, _*ᶻ_}
 use Rattle.method.specs.declared.Answer.{Answer}
 use Rattle.method.specs.Cast.{labelAt, field}
-use Rattle.method.specs.Calls.{Solved, solving}
+use Rattle.method.specs.Solving.{Solved, solving}
 use Rattle.method.specs.Many.{AskedMany, SolvedMany, manySize, fields, fieldCount, stretch, single, solvingMany}
 use Rattle.theory.specs.Exact.{Solves, bound}
 use Rattle.many_checks.specs.ManyAnswered.{AnswerOfSet}

@@ -17,8 +17,10 @@ use Rattle.method.specs.declared.Sides.{Sides}
 use Rattle.method.specs.declared.Settings.{Settings}
 use Rattle.method.specs.declared.Answer.{Answer}
 use Rattle.method.specs.declared.Found.the-variants.{Nowhere}
-use Rattle.method.specs.Cast.{cells, sidesFit, settingsFit, badLabel, interior, sealed}
-use Rattle.method.specs.Answers.{Verdict, passed, refused, verdict, refusal, byteNeed, floatNeed, wordNeed, cleared}
+use Rattle.method.specs.Cast.{cells, sidesFit, settingsFit, badLabel, interior}
+use Rattle.method.specs.Walks.{sealed}
+use Rattle.method.specs.Answers.{Verdict, passed, refused, verdict, refusal}
+use Rattle.method.specs.Rooms.{byteNeed, floatNeed, wordNeed, cleared}
 use Rattle.method.specs.Many.{AskedMany, SolvedMany, manySize, setsFit, manyLengthsFit, manyChecksBefore7, manyUntouched, manyHandedBack, solvingMany}
 use Rattle.theory.specs.Sides.{Fit}
 use Rattle.theory.proofs.Sides.{fit}

@@ -16,10 +16,12 @@ use Rattle.method.specs.declared.Settings.{Settings}
 use Rattle.method.specs.declared.Answer.{Answer}
 use Rattle.method.specs.declared.Found.{Found}
 use Rattle.method.specs.declared.Found.the-variants.{Nowhere, At}
-use Rattle.method.specs.Cast.{cells, labelAt, field, widest, first, between, settingsFit, badValue, interior, sealed}
-use Rattle.method.specs.Cast.{depth as Cast·depth}
-use Rattle.method.specs.Answers.{check, Verdict, passed, refused, verdict, refusal, done, byteNeed, floatNeed, wordNeed}
-use Rattle.method.specs.Calls.{Asked, lengthsFit, checksBefore7}
+use Rattle.method.specs.Cast.{cells, labelAt, field, widest, first, between, settingsFit, badValue, interior}
+use Rattle.method.specs.Walks.{sealed}
+use Rattle.method.specs.Walks.{depth as Cast·depth}
+use Rattle.method.specs.Answers.{check, Verdict, passed, refused, verdict, refusal, done}
+use Rattle.method.specs.Rooms.{byteNeed, floatNeed, wordNeed}
+use Rattle.method.specs.Solving.{Asked, lengthsFit, checksBefore7}
 use Rattle.method.specs.Many.{AskedMany, SolvedMany, manyChecksFrom7, manyHandedBack, endToEnd, setPressures, setFields}
 use Rattle.theory.specs.Walks.{Walk}
 use Rattle.theory.specs.Sides.{Fit}
@@ -30,7 +32,7 @@ use Rattle.theory.proofs.Accepted.{some-air, reaching}
 use Rattle.theory.proofs.Reach.{test-air}
 use Rattle.walks.specs.Search.{Roomy}
 use Rattle.bands.proofs.Calls.{words-enough}
-use Rattle.checks.proofs.RuleLaws.{fails-at, passes-on}
+use Rattle.theory.proofs.Verdicts.{fails-at, passes-on}
 use Rattle.rounds.specs.declared.Plan.{Plan}
 use Rattle.rounds.specs.Rounds.{castOf}
 use Rattle.solve.specs.Work.{PrepareAsked, PlanOf}

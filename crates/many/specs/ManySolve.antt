@@ -10,8 +10,10 @@ use Rattle.method.specs.declared.Sides.{Sides}
 use Rattle.method.specs.declared.Settings.{Settings}
 use Rattle.method.specs.declared.Answer.{Answer}
 use Rattle.method.specs.declared.Found.the-variants.{Nowhere}
-use Rattle.method.specs.Cast.{cells, labelAt, sidesFit, settingsFit, badLabel, interior, sealed}
-use Rattle.method.specs.Answers.{passed, refused, verdict, refusal, done, byteNeed, floatNeed, wordNeed}
+use Rattle.method.specs.Cast.{cells, labelAt, sidesFit, settingsFit, badLabel, interior}
+use Rattle.method.specs.Walks.{sealed}
+use Rattle.method.specs.Answers.{passed, refused, verdict, refusal, done}
+use Rattle.method.specs.Rooms.{byteNeed, floatNeed, wordNeed}
 use Rattle.method.specs.Many.{AskedMany, SolvedMany, manyChecksFrom7, manyHandedBack, endToEnd, setPressures, setFields, solvingMany}
 use Rattle.theory.specs.Walks.{Walk}
 use Rattle.many_sets.specs.Sets.{Past, SameCall, SetsAsked}

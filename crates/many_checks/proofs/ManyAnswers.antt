@@ -9,9 +9,10 @@ use Rattle.laws.specs.Whole.{_-ᶻ_, _*ᶻ_}
 use Rattle.method.specs.declared.Answer.{Answer}
 use Rattle.method.specs.declared.Found.{Found}
 use Rattle.method.specs.declared.Found.the-variants.{Nowhere, At}
-use Rattle.method.specs.Cast.{labelAt, field, sealed}
+use Rattle.method.specs.Cast.{labelAt, field}
+use Rattle.method.specs.Walks.{sealed}
 use Rattle.method.specs.Answers.{Verdict, passed, refused, verdict, refusal, done}
-use Rattle.method.specs.Calls.{Solved, solving}
+use Rattle.method.specs.Solving.{Solved, solving}
 use Rattle.theory.specs.Exact.{Solves, bound}
 use Rattle.theory.specs.Answered.{Accepted}
 use Rattle.theory.proofs.Verdicts.{AllPass, Judged, fine, faulty, judge, no-fault}

@@ -13,14 +13,16 @@ use Rattle.method.specs.declared.Sides.{Sides}
 use Rattle.method.specs.declared.Settings.{Settings}
 use Rattle.method.specs.declared.Found.{Found}
 use Rattle.method.specs.Cast.{cells, between, sidesFit, settingsFit, interior, first, badLabel}
-use Rattle.method.specs.Answers.{verdict, fault, byteNeed, floatNeed, wordNeed}
+use Rattle.method.specs.Answers.{verdict, fault}
+use Rattle.method.specs.Rooms.{byteNeed, floatNeed, wordNeed}
 use Rattle.theory.specs.Sides.{Fit}
 use Rattle.theory.proofs.Sides.{fit}
 use Rattle.checks.specs.declared.Ruling.{Ruling}
 use Rattle.checks.specs.declared.Ruling.the-variants.{Refused, Allowed}
 use Rattle.checks.specs.Rulings.{rulingOf, rulingBy, firstOf}
 use Rattle.checks.specs.Faults.{badLabelAt}
-use Rattle.checks.proofs.RuleLaws.{fails-at, passes-on, ruling-more, ruling-last, fault-no, fault-yes}
+use Rattle.theory.proofs.Verdicts.{fails-at, passes-on, fault-no, fault-yes}
+use Rattle.checks.proofs.RuleLaws.{ruling-more, ruling-last}
 use Rattle.checks.proofs.CheckLaws.{between-low, between-rest, label-fault}
 use Rattle.many_checks.specs.declared.Lengths.{Lengths}
 use Rattle.method.specs.Many.{AskedMany, manySize, fieldCount, setsFit, manyLengthsFit, manyChecksBefore7}

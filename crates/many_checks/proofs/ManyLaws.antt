@@ -14,8 +14,8 @@ use lib.Seq.{take-at, drop-at, length-take-le, take-append-le, drop-append-le}
 use Rattle.laws.proofs.Naturals.{le-or-lt}
 use Rattle.method.specs.declared.Answer.{Answer}
 use Rattle.method.specs.Cast.{cells}
-use Rattle.method.specs.Answers.{byteNeed, floatNeed, wordNeed}
-use Rattle.method.specs.Calls.{Asked, size, Solved, lengthsFit, checksBefore7, untouched, handedBack, solving}
+use Rattle.method.specs.Rooms.{byteNeed, floatNeed, wordNeed}
+use Rattle.method.specs.Solving.{Asked, size, Solved, lengthsFit, checksBefore7, untouched, handedBack, solving}
 use Rattle.theory.proofs.Verdicts.{AllPass, no-fault}
 use Rattle.theory.proofs.Pressures.{length-rounded}
 use Rattle.theory.proofs.Outcome.{Outcome, early, cut-off, unended, right, outcome}

@@ -3,7 +3,7 @@
 use Prim.Native.Nat.{ℕ, _<_}
 use mathlib.Core.Path.{_≡_}
 use Rattle.method.specs.declared.Answer.{Answer}
-use Rattle.method.specs.Calls.{Solved, solving}
+use Rattle.method.specs.Solving.{Solved, solving}
 use Rattle.method.specs.Many.{AskedMany, manySize, fields, fieldCount, stretch, single, solvingMany}
 
 -- set s of a call past 7 has the answer r

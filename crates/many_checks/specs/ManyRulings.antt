@@ -8,7 +8,8 @@ use lib.ListN.{length}
 use Rattle.method.specs.declared.Sides.{Sides}
 use Rattle.method.specs.declared.Settings.{Settings}
 use Rattle.method.specs.Cast.{cells, sidesFit, settingsFit, interior, first}
-use Rattle.method.specs.Answers.{fault, byteNeed, floatNeed, wordNeed}
+use Rattle.method.specs.Answers.{fault}
+use Rattle.method.specs.Rooms.{byteNeed, floatNeed, wordNeed}
 use Rattle.checks.specs.declared.Ruling.{Ruling}
 use Rattle.checks.specs.declared.Ruling.the-variants.{Refused}
 use Rattle.checks.specs.Rulings.{rulingBy, firstOf}

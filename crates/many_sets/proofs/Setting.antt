@@ -16,15 +16,18 @@ use Rattle.method.specs.declared.Settings.{Settings}
 use Rattle.method.specs.declared.Answer.{Answer}
 use Rattle.method.specs.declared.Found.{Found}
 use Rattle.method.specs.declared.Found.the-variants.{Nowhere, At}
-use Rattle.method.specs.Cast.{Cast, cells, sealed, first, between, sidesFit, settingsFit, badLabel, badValue, interior}
-use Rattle.method.specs.Answers.{Verdict, passed, refused, verdict, refusal, fault, floatNeed}
-use Rattle.method.specs.Calls.{Asked, Solved, lengthsFit, checksBefore7, untouched, handedBack, solving, labelFault, valueFault}
+use Rattle.method.specs.Cast.{Cast, cells, first, between, sidesFit, settingsFit, badLabel, badValue, interior}
+use Rattle.method.specs.Walks.{sealed}
+use Rattle.method.specs.Answers.{Verdict, passed, refused, verdict, refusal, fault}
+use Rattle.method.specs.Rooms.{floatNeed}
+use Rattle.method.specs.Solving.{Asked, Solved, lengthsFit, checksBefore7, untouched, handedBack, solving}
+use Rattle.method.specs.Cast.{labelFault, valueFault}
 use Rattle.theory.specs.Sides.{Fit}
 use Rattle.theory.proofs.Sides.{fit}
 use Rattle.theory.proofs.Verdicts.{AllPass, pass-all, no-fault-in}
 use Rattle.grid.proofs.Steps.{cells-most}
 use Rattle.checks.specs.Faults.{badValueAt}
-use Rattle.checks.proofs.RuleLaws.{fails-at, passes-on, fault-no}
+use Rattle.theory.proofs.Verdicts.{fails-at, passes-on, fault-no}
 use Rattle.checks.proofs.CheckLaws.{value-fault}
 use Rattle.answers.specs.declared.Measured.{Measured}
 use Rattle.rounds.specs.declared.Plan.{Plan}

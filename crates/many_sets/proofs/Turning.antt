@@ -15,7 +15,7 @@ use Rattle.method.specs.declared.Sides.{Sides}
 use Rattle.method.specs.declared.Settings.{Settings}
 use Rattle.method.specs.declared.Answer.{Answer}
 use Rattle.method.specs.Cast.{cells}
-use Rattle.method.specs.Calls.{Asked, solving}
+use Rattle.method.specs.Solving.{Asked, solving}
 use Rattle.theory.proofs.Sides.{fit}
 use Rattle.grid.proofs.Steps.{cells-most}
 use Rattle.answers.specs.declared.Measured.{Measured}

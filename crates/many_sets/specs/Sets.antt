@@ -10,9 +10,10 @@ use Rattle.method.specs.declared.Sides.{Sides}
 use Rattle.method.specs.declared.Settings.{Settings}
 use Rattle.method.specs.declared.Answer.{Answer}
 use Rattle.method.specs.declared.Found.the-variants.{Nowhere}
-use Rattle.method.specs.Cast.{cells, sidesFit, settingsFit, badLabel, interior, sealed}
-use Rattle.method.specs.Answers.{floatNeed}
-use Rattle.method.specs.Calls.{Asked, lengthsFit, solving}
+use Rattle.method.specs.Cast.{cells, sidesFit, settingsFit, badLabel, interior}
+use Rattle.method.specs.Walks.{sealed}
+use Rattle.method.specs.Rooms.{floatNeed}
+use Rattle.method.specs.Solving.{Asked, lengthsFit, solving}
 use Rattle.method.specs.Many.{AskedMany, manySize, fields, fieldCount, endToEnd, manyLengthsFit, setPressures, setFields}
 use Rattle.answers.specs.declared.Measured.{Measured}
 use Rattle.rounds.specs.declared.Plan.{Plan}

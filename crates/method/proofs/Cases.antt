@@ -1,5 +1,5 @@
--- Document 01, "Numbers to check by hand", a to l, with c, i and j as document 02 has them (wishes 5, 4 and 3), and the example of "The program": one table, one claim,
--- computed by the checker. Assumes nothing.
+-- Document 01, "Numbers to check by hand", a to l, with c, i and j as document 02 has them (wishes 5, 4 and 3), and the
+-- example of "The program": one table, one claim, computed by the checker. Assumes nothing.
 use Prim.Native.Nat.{ℕ, zero, suc, _+_, _-_, _*_, _^_}
 use mathlib.Core.Bool.{true, false}
 use mathlib.Core.Path.{_≡_, refl}
@@ -18,9 +18,10 @@ use Rattle.method.specs.declared.Tick.{Tick}
 use Rattle.method.specs.declared.Tick.the-variants.{Whole, Refused}
 use Rattle.method.specs.Cast.{Cast, residual, field}
 use Rattle.method.specs.Form.{valueRead, valueWritten}
-use Rattle.method.specs.Levels.{restricted, prolongated, value}
-use Rattle.method.specs.Rounds.{State, Turn, stalled, turned, start, round, tick}
-use Rattle.method.specs.Calls.{Asked, Solved, solving}
+use Rattle.method.specs.Transfers.{restricted, prolongated, value}
+use Rattle.method.specs.Ticks.{tick}
+use Rattle.method.specs.Rounds.{State, Turn, stalled, turned, start, round}
+use Rattle.method.specs.Solving.{Asked, Solved, solving}
 use Rattle.method.specs.Program.{program}
 use Rattle.method.specs.Computing.{computing}
 

@@ -1,4 +1,5 @@
--- Hand cases of the old session form (document 02, wish 2): one table, one claim, computed by the checker. Assumes nothing.
+-- Hand cases of the old session form (document 02, wish 2): one table, one claim, computed by the checker. Assumes
+-- nothing.
 use Prim.Native.Nat.{ℕ, zero, suc, _+_, _*_}
 use mathlib.Core.Path.{_≡_, refl}
 use mathlib.Core.Bool.{true, false}
@@ -11,7 +12,7 @@ use Rattle.method.specs.declared.Sides.{Sides}
 use Rattle.method.specs.declared.Settings.{Settings}
 use Rattle.method.specs.declared.Answer.{Answer}
 use Rattle.method.specs.Cast.{Cast}
-use Rattle.method.specs.Calls.{Written}
+use Rattle.method.specs.Writing.{Written}
 use Rattle.method.specs.OldForm.{OldReading, OldRead, oldReading, OldWriting, oldWriting, oldValueRead, oldValueWritten, expressible}
 use Rattle.method.specs.Computing.{computing}
 use Rattle.method.proofs.Cases.{case, answer, cast, row}

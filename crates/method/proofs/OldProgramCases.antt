@@ -1,4 +1,5 @@
--- Hand cases of an old session answered directly, and of the same session in the new form: document 01's own example, in its old form. Assumes nothing.
+-- Hand cases of an old session answered directly, and of the same session in the new form: document 01's own example,
+-- in its old form. Assumes nothing.
 use Prim.Native.Nat.{ℕ}
 use mathlib.Core.Path.{_≡_, refl, sym, ap, _∙_}
 use mathlib.Core.List.{List, [], _∷_, _++_}
@@ -7,8 +8,8 @@ use Rattle.laws.proofs.Table.{Case, AllHold, holds-at}
 use Rattle.method.specs.declared.Settings.{Settings}
 use Rattle.method.specs.declared.Order.the-variants.{Big, Little}
 use Rattle.method.specs.Answers.{passed, verdict, refusal, done}
-use Rattle.method.specs.Form.{header}
-use Rattle.method.specs.Calls.{solving}
+use Rattle.method.specs.Reading.{header}
+use Rattle.method.specs.Solving.{solving}
 use Rattle.method.specs.OldForm.{oldHeader, oldReaderChecks}
 use Rattle.method.specs.Program.{programRoom, programChecks, asked, shown, print, printed, program}
 use Rattle.method.specs.OldProgram.{oldTaken, oldPosed, oldPrinted, Renewal, renewal}

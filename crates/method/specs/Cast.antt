@@ -1,12 +1,12 @@
 -- Document 01, "The cast". Definitions only.
 use Prim.Native.Nat.{ℕ, zero, suc, _+_, _-_, _*_, _/_, _%_, max}
-use mathlib.Core.Bool.{Bool, true, false, not, _&&_, cond}
+use mathlib.Core.Bool.{Bool, _&&_, cond}
 use mathlib.Core.List.{List, [], _∷_}
 use lib.Dec.{ltb, leb, eqb}
 use lib.ListN.{getD}
 use lib.IntN.{ℤ, pos, natAbs}
 use Rattle.laws.specs.Loops.{up}
-use Rattle.laws.specs.Lists.{tab, any, over}
+use Rattle.laws.specs.Lists.{over}
 use Rattle.laws.specs.Whole.{_+ᶻ_, _-ᶻ_, _*ᶻ_}
 use Rattle.method.specs.declared.Sides.{Sides}
 use Rattle.method.specs.declared.Settings.{Settings}
@@ -123,42 +123,6 @@ worstValue k ps =
       | Nowhere ↦ pos 0
     ]
 
--- ---- "the least number of face steps through air to an opening", where k steps are enough
-unfoldable pub isAt : Found → Bool
-isAt Nowhere = false
-isAt (At c) = true
-
-unfoldable pub nearer : Bool → ℕ → Found → Found
-nearer near k (At d) = At d
-nearer true k Nowhere = At (suc k)
-nearer false k Nowhere = Nowhere
-
-unfoldable pub walks : Sides → List ℕ → ℕ → List Found
-walks s ls zero = tab (cells s) (λ c. cond (isOpening ls c) (At 0) Nowhere)
-walks s ls (suc k) =
-    let known = walks s ls k in
-    tab (cells s) (λ c. nearer (isAir ls c && any (λ j. isAt (getD known j Nowhere)) (around s c)) k (getD known c Nowhere))
-
--- A walk has no more steps than there are cells.
-unfoldable pub walk : Sides → List ℕ → List Found
-walk s ls = walks s ls (cells s)
-
-unfoldable pub stepsOf : Found → ℕ
-stepsOf Nowhere = 0
-stepsOf (At d) = d
-
--- "Depth is the greatest, over air cells, of the least number of face steps through air to an opening."
-unfoldable pub depth : Sides → List ℕ → ℕ
-depth s ls =
-    let known = walk s ls in
-    up (λ c d. cond (judged ls c) (max d (stepsOf (getD known c Nowhere))) d) (cells s) 0
-
--- the first air cell with no walk through air to an opening
-unfoldable pub sealed : Sides → List ℕ → Found
-sealed s ls =
-    let known = walk s ls in
-    first (λ c. isAir ls c && not (isAt (getD known c Nowhere))) (cells s)
-
 -- ---- "Sides nx, ny, nz are 1 to 32." "Settings: tolerance 0 to 1,000,000; levels 1 to 6; round limit 0 to 1,000."
 unfoldable pub between : ℕ → ℕ → ℕ → Bool
 between lo hi x = leb lo x && leb x hi
@@ -175,3 +139,15 @@ badLabel s ls = first (λ c. ltb 2 (labelAt ls c)) (cells s)
 
 unfoldable pub badValue : Sides → List ℕ → List ℤ → Found
 badValue s ls vs = first (λ c. ltb (widest (labelAt ls c)) (natAbs (field vs c))) (cells s)
+
+-- ---- checks 4 and 5, of a cast
+abbrev pub labelFault : Cast → Found
+labelFault k = badLabel (k .sides) (k .labels)
+
+abbrev pub valueFault : Cast → Found
+valueFault k = badValue (k .sides) (k .labels) (k .values)
+
+-- one name that opens this file
+unfoldable pub computing-cast : Unit {0}
+unfolding cells number axes along labelAt isAir isOpening noWall back on beside around widest level degree sumAround residual judged worst interior orElse first isWorst worstCell worstValue between sidesFit settingsFit badLabel badValue
+computing-cast = tt

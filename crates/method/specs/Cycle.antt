@@ -1,15 +1,17 @@
 -- Document 01, "The cycle in binary64". Each operation rounds once. Definitions only.
 use Prim.Native.Nat.{ℕ, zero, suc, _+_, _^_}
-use mathlib.Core.Bool.{Bool, true, false, cond}
+use mathlib.Core.Bool.{Bool, cond, not, _&&_, _||_}
 use mathlib.Core.List.{List}
 use lib.ListN.{set}
 use lib.Ieee.{Float}
+use lib.Dec.{leb}
 use Rattle.laws.specs.Loops.{up, down}
-use Rattle.laws.specs.Lists.{tab, over}
+use Rattle.laws.specs.Lists.{tab, over, any}
 use Rattle.laws.specs.Binary64.{_⊕_, _⊖_, _⊗_, _⊘_, +0, ofℕ}
 use Rattle.method.specs.declared.Sides.{Sides}
-use Rattle.method.specs.Cast.{cells, isAir, degree, around}
-use Rattle.method.specs.Levels.{halved, coarse, value, inAir, restricted, prolongated, inBand}
+use Rattle.method.specs.Cast.{cells, isAir, around, degree}
+use Rattle.method.specs.Levels.{halved, children, coarse}
+use Rattle.method.specs.Transfers.{givenTo, value, inAir, restricted, prolongated}
 
 -- ---- "Here openings count as zero: A u = d·u minus the sum of air neighbours."
 unfoldable pub airSum : Sides → List ℕ → List Float → ℕ → Float
@@ -39,6 +41,14 @@ ascending s ls at b u = up (relaxed s ls at b) (cells s) u
 unfoldable pub descending : Sides → List ℕ → (ℕ → Bool) → List Float → List Float → List Float
 descending s ls at b u = down (relaxed s ls at b) (cells s) u
 
+-- ---- "Band: an air cell for which any of the up to 8 coarse cells that prolongate to it has a child that isn't air.
+-- Coarse places outside the box count as having one."
+unfoldable pub hasOther : Sides → List ℕ → ℕ → Bool
+hasOther s ls c = leb (cells (halved s)) c || any (λ j. not (isAir ls j)) (children s c)
+
+unfoldable pub inBand : Sides → List ℕ → ℕ → Bool
+inBand s ls c = isAir ls c && any (λ d. hasOther s ls (d .cell)) (givenTo s c)
+
 -- ---- the cycle
 unfoldable pub zeros : Sides → List Float
 zeros s = tab (cells s) (λ c. +0)
@@ -59,7 +69,8 @@ coarsest s ls b = times 8 (descending s ls (isAir ls) b) (times 8 (ascending s l
 unfoldable pub sweeps : ℕ → ℕ
 sweeps l = 2 ^ (l + 1)
 
--- "Level l, not the coarsest, from u = 0: one Jacobi; 2^(l+1) ascending Gauss-Seidel sweeps of the band; residual, restricted."
+-- "Level l, not the coarsest, from u = 0: one Jacobi; 2^(l+1) ascending Gauss-Seidel sweeps of the band; residual,
+-- restricted."
 unfoldable pub downstroke : ℕ → Sides → List ℕ → List Float → List Float
 downstroke l s ls b = times (sweeps l) (ascending s ls (inBand s ls) b) (jacobi s ls b (zeros s))
 
@@ -73,3 +84,8 @@ cycle l zero s ls b = coarsest s ls b
 cycle l (suc below) s ls b =
     let u = downstroke l s ls b in
     upstroke l s ls b u (cycle (suc l) below (halved s) (coarse s ls) (restricted s ls (residue s ls b u)))
+
+-- one name that opens this file
+unfoldable pub computing-cycle : Unit {0}
+unfolding airSum applied rest change jacobi relaxed ascending descending hasOther inBand zeros residue corrected times coarsest sweeps downstroke upstroke cycle
+computing-cycle = tt

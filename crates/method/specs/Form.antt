@@ -1,6 +1,6 @@
--- Document 01, "The session form". Definitions only.
+-- Document 01, "The session form": its lines and its body. Definitions only.
 use Prim.Native.Nat.{ℕ, zero, suc, _+_, _-_, _*_, _/_, _%_, _^_}
-use mathlib.Core.Bool.{Bool, true, false, not, _&&_, _||_, cond}
+use mathlib.Core.Bool.{true, false, cond}
 use mathlib.Core.List.{List, [], _∷_, _++_, reverse, flatMap}
 use mathlib.Core.Option.{Option, none, some}
 use lib.Dec.{ltb, eqb}
@@ -14,33 +14,8 @@ use Rattle.method.specs.declared.Order.{Order}
 use Rattle.method.specs.declared.Order.the-variants.{Big, Little}
 use Rattle.method.specs.declared.Found.{Found}
 use Rattle.method.specs.declared.Found.the-variants.{Nowhere, At}
-use Rattle.method.specs.Cast.{Cast, cells, between}
-
--- ---- numbers, written: decimal, with no leading zero. A number has no more digits than its own size.
-unfoldable pub lastDigit : ℕ → List ℕ
-lastDigit n = (48 + n % 10) ∷ []
-
-unfoldable pub spelled : ℕ → ℕ → List ℕ
-spelled zero n = lastDigit n
-spelled (suc k) n = elim (n / 10) [ zero ↦ lastDigit n | suc m ↦ spelled k (n / 10) ++ lastDigit n ]
-
-unfoldable pub decimal : ℕ → List ℕ
-decimal n = spelled n n
-
--- and read: "1 to 7 decimal digits with no sign and no leading zero, except `0` itself"
-unfoldable pub isDigit : ℕ → Bool
-isDigit b = between 48 57 b
-
-unfoldable pub digits : List ℕ → List ℕ
-digits [] = []
-digits (b ∷ bs) = elim (isDigit b) [ true ↦ b ∷ digits bs | false ↦ [] ]
-
-unfoldable pub isNumber : List ℕ → Bool
-isNumber ds = between 1 7 (length ds) && (eqb (length ds) 1 || not (eqb (getD ds 0 0) 48))
-
-unfoldable pub valueOf : ℕ → List ℕ → ℕ
-valueOf v [] = v
-valueOf v (b ∷ bs) = valueOf (10 * v + (b - 48)) bs
+use Rattle.method.specs.Cast.{Cast, cells}
+use Rattle.method.specs.Numbers.{decimal, digits, isNumber, valueOf}
 
 -- ---- "Seven lines, each ended by one LF, in this order"
 -- A line read: not of the form, or its value and the bytes after it.
@@ -75,7 +50,8 @@ lines =
     numberLine (text "nx=") ∷ numberLine (text "ny=") ∷ numberLine (text "nz=") ∷ orderLine
     ∷ numberLine (text "tolerance=") ∷ numberLine (text "levels=") ∷ numberLine (text "rounds=") ∷ []
 
--- Lines read one after the other: the number of the first that is not of the form, or all values and the bytes after them.
+-- Lines read one after the other: the number of the first that is not of the form, or all values and the bytes after
+-- them.
 pub data Lines : Type 0 where
   wrong : ℕ → Lines
   right : List ℕ → List ℕ → Lines
@@ -174,3 +150,8 @@ headerWritten s o t =
 
 unfoldable pub written : Cast → Order → Settings → List ℕ
 written k o t = headerWritten (k .sides) o t ++ k .labels ++ flatMap (valueWritten o) (k .values)
+
+-- one name that opens this file
+unfoldable pub computing-form : Unit {0}
+unfolding after closed numberLine orderLine lines more readLines orderOf headerOf header wrongLine badLine inOrder mostFirst twosComplement wordOf fourBytes valueRead valueWritten labelsIn valuesIn castIn line orderWord headerWritten written
+computing-form = tt

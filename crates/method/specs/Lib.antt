@@ -1,13 +1,20 @@
 -- THE MEANING: document 01 as definitions, in its words and order. Definitions only.
 pub mod Cast
+pub mod Walks
+pub mod Numbers
 pub mod Form
 pub mod Answers
+pub mod Rooms
 pub mod Levels
+pub mod Transfers
 pub mod Cycle
+pub mod Ticks
 pub mod Rounds
-pub mod Calls
+pub mod Solving
+pub mod Reading
+pub mod Writing
 pub mod Program
-pub mod OldForm
 pub mod OldProgram
 pub mod Many
+pub mod OldForm
 pub mod Computing

@@ -1,5 +1,5 @@
 -- Document 02, wish 1, "One cast, many sources": one cast with 1 to 64 value sets laid end to end. Definitions only.
-use Prim.Native.Nat.{ℕ, zero, suc, _+_, _*_}
+use Prim.Native.Nat.{ℕ, zero, suc, _*_}
 use mathlib.Core.Bool.{Bool, not, _&&_}
 use mathlib.Core.List.{List, [], _∷_, _++_}
 use lib.Dec.{leb, eqb}
@@ -10,11 +10,14 @@ use Rattle.laws.specs.Binary64.{+0}
 use Rattle.method.specs.declared.Sides.{Sides}
 use Rattle.method.specs.declared.Settings.{Settings}
 use Rattle.method.specs.declared.Answer.{Answer}
-use Rattle.method.specs.Cast.{cells, between, sidesFit, settingsFit, badLabel, interior, sealed}
-use Rattle.method.specs.Answers.{Check, check, fault, passed, refused, verdict, refusal, done, byteNeed, floatNeed, wordNeed, cleared}
-use Rattle.method.specs.Calls.{Asked, solving}
+use Rattle.method.specs.Cast.{cells, interior, between, sidesFit, settingsFit, badLabel}
+use Rattle.method.specs.Walks.{sealed}
+use Rattle.method.specs.Answers.{refusal, done, Check, check, fault, passed, refused, verdict}
+use Rattle.method.specs.Rooms.{byteNeed, floatNeed, wordNeed, cleared}
+use Rattle.method.specs.Solving.{Asked, solving}
 
--- ---- what is handed in and lent: one cast's sides and labels, the settings, how many sets, and their values, pressures and answers laid end to end
+-- ---- what is handed in and lent: one cast's sides and labels, the settings, how many sets, and their values,
+-- pressures and answers laid end to end
 pub record AskedMany : Type 0 where
   pub sides : Sides
   pub labels : List ℕ
@@ -78,7 +81,8 @@ manyLengthsFit a =
 unfoldable pub setsFit : ℕ → Bool
 setsFit sets = between 1 64 sets
 
--- "Refusals: 1, 2, 3 (also for the number of sets), 4, 6, 7 in that order for the whole call": those before 7, which change nothing lent, and 7
+-- "Refusals: 1, 2, 3 (also for the number of sets), 4, 6, 7 in that order for the whole call": those before 7, which
+-- change nothing lent, and 7
 unfoldable pub manyChecksBefore7 : List (Check AskedMany)
 manyChecksBefore7 =
     check 1 (λ a. fault (not (sidesFit (a .sides))))

@@ -1,5 +1,6 @@
--- Document 02, wish 2, "The old session form, in and out": the form, its reading and its writing, built of document 01's words. Definitions only.
-use Prim.Native.Nat.{ℕ, zero, suc, _+_, _-_, _*_, _/_, _%_, _^_}
+-- Document 02, wish 2, "The old session form, in and out": the form, its reading and its writing, built of document
+-- 01's words. Definitions only.
+use Prim.Native.Nat.{ℕ, suc, _+_, _-_, _*_, _/_, _%_, _^_}
 use mathlib.Core.Bool.{Bool, not, _&&_, cond}
 use mathlib.Core.List.{List, [], _∷_, _++_, flatMap}
 use mathlib.Core.Option.{none, some}
@@ -14,12 +15,15 @@ use Rattle.method.specs.declared.Settings.{Settings}
 use Rattle.method.specs.declared.Answer.{Answer}
 use Rattle.method.specs.declared.Found.{Found}
 use Rattle.method.specs.declared.Found.the-variants.{Nowhere, At}
-use Rattle.method.specs.Cast.{Cast, cells, between, field, first, sidesFit, settingsFit}
-use Rattle.method.specs.Form.{Line, bad, Lines, wrong, right, readLines, decimal, digits, closed, after, line, mostFirst}
-use Rattle.method.specs.Answers.{Check, check, fault, Verdict, passed, refused, verdict, refusal, done, filled}
-use Rattle.method.specs.Calls.{Written, labelFault, valueFault}
+use Rattle.method.specs.Cast.{Cast, cells, field, first, between, sidesFit, settingsFit, labelFault, valueFault}
+use Rattle.method.specs.Numbers.{decimal, digits}
+use Rattle.method.specs.Form.{Line, bad, after, closed, Lines, wrong, right, readLines, mostFirst, line}
+use Rattle.method.specs.Answers.{refusal, done, Check, check, fault, passed, refused, verdict}
+use Rattle.method.specs.Rooms.{filled}
+use Rattle.method.specs.Writing.{Written}
 
--- ---- "one line `size=AxBxC`, one line `unit=U`": four numbers, each after a key and up to an end. "Numbers are spelled as in 01."
+-- ---- "one line `size=AxBxC`, one line `unit=U`": four numbers, each after a key and up to an end. "Numbers are
+-- spelled as in 01."
 unfoldable pub numberTo : List ℕ → List ℕ → List ℕ → Line
 numberTo end key bs =
     elim (after key bs) [ none ↦ bad | some cs ↦ closed (digits cs) (after end (drop (length (digits cs)) cs)) ]
@@ -172,7 +176,8 @@ oldLengthsFit w =
     eqb (length (w .cast .labels)) (cells (w .cast .sides)) && (eqb (length (w .cast .values)) (cells (w .cast .sides))
     && leb (length (oldBytesOf w)) (length (w .output)))
 
--- "refuses a value that isn't a multiple of it or doesn't fit 16 bits": "13, value not expressible, place its first cell"
+-- "refuses a value that isn't a multiple of it or doesn't fit 16 bits": "13, value not expressible, place its first
+-- cell"
 unfoldable pub fits16 : ℤ → Bool
 fits16 (pos n) = ltb n (2 ^ 15)
 fits16 (negsuc n) = ltb n (2 ^ 15)

@@ -1,4 +1,5 @@
--- Document 02, wish 2, for the archive's keeper: what is printed of an old session that is answered directly, and the same session in the new form.
+-- Document 02, wish 2, for the archive's keeper: what is printed of an old session that is answered directly, and the
+-- same session in the new form.
 -- "It has no settings; the caller passes them." Definitions only.
 use Prim.Native.Nat.{ℕ}
 use mathlib.Core.List.{List, []}
@@ -10,10 +11,11 @@ use Rattle.method.specs.declared.Order.{Order}
 use Rattle.method.specs.declared.Answer.{Answer}
 use Rattle.method.specs.Cast.{cells}
 use Rattle.method.specs.Form.{written}
-use Rattle.method.specs.Answers.{passed, refused, verdict, refusal, done, byteNeed, floatNeed, wordNeed}
-use Rattle.method.specs.Calls.{Asked, solving}
-use Rattle.method.specs.OldForm.{OldHeader, OldReading, oldNamed, oldCastIn, oldReaderChecks}
+use Rattle.method.specs.Answers.{refusal, done, passed, refused, verdict}
+use Rattle.method.specs.Rooms.{byteNeed, floatNeed, wordNeed}
+use Rattle.method.specs.Solving.{Asked, solving}
 use Rattle.method.specs.Program.{print, shown}
+use Rattle.method.specs.OldForm.{OldHeader, oldCastIn, OldReading, oldNamed, oldReaderChecks}
 
 -- an old session and the caller's settings, read with room for so many values
 abbrev pub oldTaken : ℕ → Settings → List ℕ → OldReading
@@ -38,7 +40,8 @@ oldPrinted room t bs =
     let r = oldTaken room t bs in
     elim (verdict oldReaderChecks r) [ refused num place ↦ print (refusal num place) [] | passed ↦ shown (solving (oldPosed (oldNamed r) t)) ]
 
--- the same session in the new form: the reader's answer, and on 0 the bytes of the cast in an order, with the caller's settings
+-- the same session in the new form: the reader's answer, and on 0 the bytes of the cast in an order, with the caller's
+-- settings
 pub record Renewal : Type 0 where
   pub answer : Answer
   pub bytes : List ℕ
@@ -50,3 +53,8 @@ renewal room o t bs =
       | refused num place ↦ record { answer = refusal num place; bytes = [] }
       | passed ↦ record { answer = done; bytes = written (oldCastIn (oldNamed r)) o t }
     ]
+
+-- one name that opens this file
+unfoldable pub computing-old-program : Unit {0}
+unfolding oldPosed oldPrinted renewal
+computing-old-program = tt

@@ -1,6 +1,5 @@
 -- Document 01, "The program". Definitions only.
-use Prim.Native.Nat.{ℕ, zero, suc, _+_, _*_}
-use mathlib.Core.Bool.{Bool, true, false}
+use Prim.Native.Nat.{ℕ, zero, suc}
 use mathlib.Core.List.{List, [], _∷_, _++_, flatMap}
 use lib.Dec.{ltb}
 use lib.ListN.{replicate}
@@ -9,9 +8,12 @@ use Rattle.laws.specs.Binary64.{+0}
 use Rattle.laws.specs.Text.{text}
 use Rattle.method.specs.declared.Answer.{Answer}
 use Rattle.method.specs.Cast.{cells}
-use Rattle.method.specs.Form.{Header, decimal, line, castIn}
-use Rattle.method.specs.Answers.{Check, Verdict, passed, refused, check, fault, verdict, refusal, byteNeed, floatNeed, wordNeed}
-use Rattle.method.specs.Calls.{Reading, named, lineCheck, sideCheck, bodyCheck, contentChecks, Asked, Solved, solving}
+use Rattle.method.specs.Numbers.{decimal}
+use Rattle.method.specs.Form.{Header, castIn, line}
+use Rattle.method.specs.Answers.{refusal, Check, check, fault, passed, refused, verdict}
+use Rattle.method.specs.Rooms.{byteNeed, floatNeed, wordNeed}
+use Rattle.method.specs.Solving.{Asked, Solved, solving}
+use Rattle.method.specs.Reading.{Reading, named, lineCheck, sideCheck, bodyCheck, contentChecks}
 
 -- "rooms for 1,000 cells (sides in range but more cells: answer 2 before 11 is looked at)"
 unfoldable pub programRoom : ℕ
@@ -59,3 +61,8 @@ printed room bs =
 
 unfoldable pub program : List ℕ → List ℕ
 program bs = printed programRoom bs
+
+-- one name that opens this file
+unfoldable pub computing-program : Unit {0}
+unfolding programRoom programChecks whole answerLines print asked shown printed program
+computing-program = tt

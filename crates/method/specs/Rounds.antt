@@ -1,75 +1,29 @@
 -- Document 01, "The rounds". Definitions only.
-use Prim.Native.Nat.{ℕ, zero, suc, _+_, _-_, _*_, _/_, _%_, _^_}
-use mathlib.Core.Bool.{Bool, true, false, not, _&&_, cond}
-use mathlib.Core.List.{List, map}
-use lib.Dec.{eqb, ltb, leb}
-use lib.IntN.{ℤ, pos, negℤ}
+use Prim.Native.Nat.{ℕ, zero, suc, _-_}
+use mathlib.Core.Bool.{Bool, true, false, _&&_, cond}
+use mathlib.Core.List.{List}
+use lib.IntN.{ℤ}
 use lib.Ieee as Ieee
 use lib.Ieee.{Float, nan, inf, fin}
 use Rattle.laws.specs.Loops.{up}
-use Rattle.laws.specs.Lists.{tab, any, over}
+use Rattle.laws.specs.Lists.{over}
 use Rattle.laws.specs.Whole.{_+ᶻ_}
 use Rattle.laws.specs.Binary64.{_⊕_, _⊖_, _⊗_, _⊘_, +0, ofℤ}
 use Rattle.method.specs.declared.Sides.{Sides}
 use Rattle.method.specs.declared.Settings.{Settings}
-use Rattle.method.specs.declared.Tick.{Tick}
-use Rattle.method.specs.declared.Tick.the-variants.{Whole, Refused}
 use Rattle.method.specs.declared.Scalars.{Scalars}
 use Rattle.method.specs.declared.Step.{Step}
 use Rattle.method.specs.declared.Step.the-variants.{Go, Stalled}
 use Rattle.method.specs.Cast.{Cast, cells, isAir, isOpening, around, field, level, worst}
-use Rattle.method.specs.Levels.{value, inAir}
-use Rattle.method.specs.Cycle.{applied, cycle, zeros}
+use Rattle.method.specs.Transfers.{value, inAir}
+use Rattle.method.specs.Cycle.{applied, zeros, cycle}
+use Rattle.method.specs.Ticks.{rounded, passes}
 
 -- ---- "b is source plus neighbouring opening levels": whole, converted once
 unfoldable pub rightSide : Cast → List Float
 rightSide k =
     inAir (k .sides) (k .labels)
     (λ c. ofℤ (over (isOpening (k .labels)) (λ j b. b +ᶻ level (k .labels) (k .values) j) (around (k .sides) c) (field (k .values) c)))
-
--- ---- "round every x to the nearest whole tick", and document 02, wish 3: "a tie goes to the even tick"
--- what lies half way between q and q + 1: the even one of the two
-unfoldable pub tie : ℕ → ℕ
-tie q = cond (eqb (q % 2) 0) q (q + 1)
-
--- the whole number nearest to a / b
-unfoldable pub nearest : ℕ → ℕ → ℕ
-nearest a b = cond (ltb (a % b * 2) b) (a / b) (cond (ltb b (a % b * 2)) (a / b + 1) (tie (a / b)))
-
-unfoldable pub furthest : ℕ
-furthest = 2 ^ 41
-
-unfoldable pub signed : Bool → ℕ → ℤ
-signed true m = negℤ (pos m)
-signed false m = pos m
-
--- "finite, within ±2^41 after rounding"
-unfoldable pub kept : Bool → ℕ → Tick
-kept s m = cond (leb m furthest) (Whole (signed s m)) Refused
-
-unfoldable pub tick : Float → Tick
-tick nan = Refused
-tick (inf s) = Refused
-tick (fin s m e) = kept s (nearest (m * Ieee.up e) (Ieee.down e))
-
--- "opening levels, 0 at walls, whole ticks in air"
-unfoldable pub ticks : Cast → List Float → List Tick
-ticks k x = tab (cells (k .sides)) (λ c. cond (isAir (k .labels) c) (tick (value x c)) (Whole (level (k .labels) (k .values) c)))
-
-unfoldable pub isRefused : Tick → Bool
-isRefused (Whole z) = false
-isRefused Refused = true
-
-unfoldable pub wholeOf : Tick → ℤ
-wholeOf (Whole z) = z
-wholeOf Refused = pos 0
-
-unfoldable pub rounded : Cast → List Float → List ℤ
-rounded k x = map wholeOf (ticks k x)
-
--- "pass if all are finite, within ±2^41 after rounding, and every exact residual is within tolerance"
-unfoldable pub passes : Cast → Settings → List Float → Bool
-passes k t x = not (any isRefused (ticks k x)) && leb (worst k (rounded k x)) (t .tolerance)
 
 -- ---- a round
 -- how many rounds are done; x, r, the last round's p and rho
@@ -139,7 +93,8 @@ module _ (s : Sides) (ls : List ℕ) (below : ℕ) (st : State) where
       let p = inAir s ls (λ c. direction (st .rounds) beta (value z c) (value (st .p) c)) in
       moved p new (step (scalars z p new))
 
--- ---- the rounds: how they end. Accepted after so many rounds, with the worst residual and the pressures; or 8 or 9 after so many
+-- ---- the rounds: how they end. Accepted after so many rounds, with the worst residual and the pressures; or 8 or 9
+-- after so many
 pub data End : Type 0 where
   solved : ℕ → ℕ → List ℤ → End
   failed : ℕ → ℕ → End
@@ -151,7 +106,8 @@ module _ (k : Cast) (t : Settings) where
   unfoldable pub fail : ℕ → State → End
   fail num st = failed num (st .rounds)
 
-  -- "A pass is answer 0; a failed test with rounds equal to the limit is 8. Otherwise .." left is how many rounds are left.
+  -- "A pass is answer 0; a failed test with rounds equal to the limit is 8. Otherwise .." left is how many rounds are
+  -- left.
   unfoldable pub run : ℕ → State → End
   run zero st = elim (passes k t (st .x)) [ true ↦ pass st | false ↦ fail 8 st ]
   run (suc left) st =
@@ -168,3 +124,8 @@ start k =
 
 unfoldable pub ending : Cast → Settings → End
 ending k t = run k t (t .rounds) (start k)
+
+-- one name that opens this file
+unfoldable pub computing-rounds : Unit {0}
+unfolding rightSide dot betaOf direction finite usable step scalars moved round pass fail run start ending
+computing-rounds = tt

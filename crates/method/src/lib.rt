@@ -1,4 +1,5 @@
-// The types that the meaning and the code share. No code: what they mean stands in specs/. Those of the C interface are laid out as C lays them out.
+// The types that the meaning and the code share. No code: what they mean stands in specs/. Those of the C interface are
+// laid out as C lays them out.
 
 // The sides of a box of cells.
 #[repr(C)]

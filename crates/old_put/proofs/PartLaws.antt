@@ -14,7 +14,8 @@ use mir.Val.{SFits, toZ, ofZ}
 use mir.Facts.{toZ-ofZ}
 use Rattle.laws.specs.Text.{text}
 use Rattle.method.specs.declared.Sides.{Sides}
-use Rattle.method.specs.Form.{decimal, line}
+use Rattle.method.specs.Numbers.{decimal}
+use Rattle.method.specs.Form.{line}
 use Rattle.method.specs.OldForm.{oldValueRead, oldValueWritten, sizeWord, oldHeaderWritten, oldWritten}
 use Rattle.theory.proofs.OldBytes.{length-two, length-rows}
 use Rattle.puts.specs.Puts.{Put, DigitsOf}

@@ -1,4 +1,5 @@
--- The promise of `old_header_length` allows one result; that of `put_old_session` is `Put`, which puts' own theorem covers. Assumes nothing.
+-- The promise of `old_header_length` allows one result; that of `put_old_session` is `Put`, which puts' own theorem
+-- covers. Assumes nothing.
 use mathlib.Core.Path.{_≡_, sym, _∙_}
 use Prim.Native.Nat.{ℕ}
 use Rattle.method.specs.declared.Sides.{Sides}

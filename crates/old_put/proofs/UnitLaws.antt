@@ -15,7 +15,7 @@ use mir.Facts.{toZ-ofZ}
 use Rattle.laws.specs.Whole.{neg}
 use Rattle.method.specs.OldForm.{shortWord, twoBytes, stored, oldValueWritten}
 use Rattle.puts.specs.Puts.{Put}
-use Rattle.words.proofs.WordLaws.{below, above}
+use Rattle.whole.proofs.Signs.{below, above}
 
 -- ---- the word that stores it
 neg-word : (q : ℕ) → q < 65536 → twoBytes (65536 - q) ≡ twoBytes (shortWord (neg (pos q)))

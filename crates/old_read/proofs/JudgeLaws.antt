@@ -16,21 +16,21 @@ use Rattle.method.specs.declared.Sides.{Sides}
 use Rattle.method.specs.declared.Settings.{Settings}
 use Rattle.method.specs.declared.Found.{Found}
 use Rattle.method.specs.declared.Found.the-variants.{Nowhere}
-use Rattle.method.specs.Cast.{cells, sidesFit, settingsFit, labelAt, widest, first, badLabel, badValue}
+use Rattle.method.specs.Cast.{cells, sidesFit, settingsFit, labelAt, widest, first, badLabel, badValue, labelFault, valueFault}
 use Rattle.method.specs.Answers.{Check, check, fault, verdict}
-use Rattle.method.specs.Calls.{labelFault, valueFault}
 use Rattle.method.specs.OldForm.{OldReading, oldNamed, oldHeader, oldBadLine, oldValueRead, oldLabelsIn, oldValuesIn, oldCastIn, unitFits, oldLineCheck, oldSideCheck, oldBodyCheck, oldRoomCheck, oldContentChecks, oldReaderChecks}
 use Rattle.method.specs.OldForm as form
 use Rattle.theory.proofs.Firsts.{first-cong}
 use Rattle.theory.specs.Sides.{Fit}
 use Rattle.theory.proofs.Sides.{fit}
-use Rattle.theory.proofs.Verdicts.{no-fault, no-fault′}
+use Rattle.theory.proofs.Verdicts.{no-fault, no-fault′, fails-at, passes-on, fault-no, fault-yes}
 use Rattle.theory.proofs.OldRoundTrip.{unit-to}
 use Rattle.checks.specs.Faults.{badLabelAt}
 use Rattle.checks.specs.Rulings.{rulingOf, rulingBy, firstOf}
 use Rattle.checks.specs.declared.Ruling.{Ruling}
 use Rattle.checks.specs.declared.Ruling.the-variants.{Refused as Refusedᴿ, Allowed}
-use Rattle.checks.proofs.RuleLaws.{fails-at, passes-on, ruling-more, ruling-last, rulingIn, ruling-in, first-assoc, both-allowed, ruled-none, fault-no, fault-yes}
+use Rattle.checks.proofs.RuleLaws.{ruling-more, ruling-last, ruling-in, first-assoc, both-allowed, ruled-none}
+use Rattle.theory.proofs.?.{rulingIn}
 use Rattle.old_header.specs.OldLines.{oldNamedBy, OldHeaderOf, oldHeaderIn, oldWrongIn, oldStartIn}
 use Rattle.old_header.specs.declared.OldHeader.{OldHeader}
 use Rattle.old_header.specs.declared.OldHeaderRead.{OldHeaderRead}

@@ -14,11 +14,12 @@ use Rattle.laws.specs.Lists.{tab}
 use Rattle.method.specs.declared.Answer.{Answer}
 use Rattle.method.specs.declared.Settings.{Settings}
 use Rattle.method.specs.Cast.{cells}
-use Rattle.method.specs.Answers.{fault, passed, refused, verdict, refusal, done, filled}
+use Rattle.method.specs.Answers.{fault, passed, refused, verdict, refusal, done}
+use Rattle.method.specs.Rooms.{filled}
 use Rattle.method.specs.OldForm.{OldReading, oldHeader, oldHeaderOf, oldLabelsIn, oldValuesIn, oldLineCheck, oldSideCheck, oldBodyCheck, oldRoomCheck, oldContentChecks, oldReaderChecks, bodyStart, oldNotRead, oldIsRead, oldReading}
 use Rattle.theory.specs.Sides.{Fit}
 use Rattle.theory.proofs.Sides.{fit}
-use Rattle.checks.proofs.RuleLaws.{verdict-agree}
+use Rattle.theory.proofs.Verdicts.{verdict-agree}
 use Rattle.old_header.specs.declared.OldHeader.{OldHeader}
 use Rattle.old_read.specs.OldBody.{oldValueIn}
 use Rattle.old_read.specs.OldReads.{oldLent, OldReadOf, oldAsked, oldVerdictOf, OldReadyIf, OldJudgedOf, Takes, TakesIf, oldTakenOf}

@@ -82,7 +82,8 @@ fn taken_of(judged: Judged) -> Taken
     }
 }
 
-// Reads an old session: sides, unit and where the labels begin are handed back, the values are stored. All checks come before the first store.
+// Reads an old session: sides, unit and where the labels begin are handed back, the values are stored. All checks come
+// before the first store.
 pub fn read_old(settings: Settings, bytes: &[u8], values: &mut [i32]) -> OldSession
     ensures { λ r. ⌜ OldReadOf settings (now (bytes .entry)) (now (values .entry)) r (now (values .exit)) ⌝ }
 {
@@ -97,7 +98,8 @@ pub fn read_old(settings: Settings, bytes: &[u8], values: &mut [i32]) -> OldSess
     session
 }
 
-// The label part of an old session that is read with room for so many values: no copy. Nothing where the reader refuses it.
+// The label part of an old session that is read with room for so many values: no copy. Nothing where the reader refuses
+// it.
 pub fn old_labels(settings: Settings, bytes: &[u8], room: usize) -> &[u8]
     ensures { λ r. ⌜ now r ≡ oldReading (oldAsked settings (now (bytes .entry)) room) .labels ⌝ }
 {

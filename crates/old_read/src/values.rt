@@ -6,7 +6,7 @@ ghost use lib.IntN.{pos};
 ghost use lib.ListN.{length};
 ghost use Rattle.laws.specs.Lists.{tab};
 ghost use Rattle.laws.specs.Whole.{_*ᶻ_};
-ghost use Rattle.method.specs.Answers.{filled};
+ghost use Rattle.method.specs.Rooms.{filled};
 ghost use Rattle.method.specs.Cast.{first};
 ghost use Rattle.method.specs.Form.{mostFirst, wordOf};
 ghost use Rattle.method.specs.OldForm.{shortSigned};

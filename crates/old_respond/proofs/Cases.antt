@@ -1,4 +1,5 @@
--- Document 01's own example in the old form, by the promise of `respond_old`: with room for its three cells the program's own lines stand at the front. Assumes nothing.
+-- Document 01's own example in the old form, by the promise of `respond_old`: with room for its three cells the
+-- program's own lines stand at the front. Assumes nothing.
 use mathlib.Core.Path.{_≡_, ap, _∙_}
 use mathlib.Core.List.{List}
 use Prim.Native.Nat.{ℕ}

@@ -1,4 +1,5 @@
--- The promise of a program that takes old sessions, from that of `respond_old` with room for the greatest cast. Assumes nothing.
+-- The promise of a program that takes old sessions, from that of `respond_old` with room for the greatest cast. Assumes
+-- nothing.
 use mathlib.Core.Path.{_≡_}
 use mathlib.Core.List.{List}
 use Prim.Native.Nat.{ℕ, _≤_}

@@ -1,4 +1,5 @@
--- Laws of the response to an old session: the reader's refusal, the solver's answer in rooms that may be longer than needed. Assumes nothing.
+-- Laws of the response to an old session: the reader's refusal, the solver's answer in rooms that may be longer than
+-- needed. Assumes nothing.
 use mathlib.Core.Path.{_≡_, sym, ap, ap₂, _∙_}
 use mathlib.Core.Bool.{true}
 use mathlib.Core.List.{List, []}
@@ -16,8 +17,9 @@ use Rattle.laws.proofs.Lists.{length-tab}
 use Rattle.method.specs.declared.Sides.{Sides}
 use Rattle.method.specs.declared.Settings.{Settings}
 use Rattle.method.specs.Cast.{cells, sidesFit}
-use Rattle.method.specs.Answers.{passed, refused, verdict, refusal, done, filled, byteNeed, floatNeed, wordNeed}
-use Rattle.method.specs.Calls.{Asked, lengthsFit, solving}
+use Rattle.method.specs.Answers.{passed, refused, verdict, refusal, done}
+use Rattle.method.specs.Rooms.{filled, byteNeed, floatNeed, wordNeed}
+use Rattle.method.specs.Solving.{Asked, lengthsFit, solving}
 use Rattle.method.specs.Program.{print, shown}
 use Rattle.method.specs.OldForm.{OldReading, oldHeader, oldLabelsIn, oldValuesIn, oldCastIn, oldValueRead, oldLineCheck, oldSideCheck, oldBodyCheck, oldRoomCheck, oldContentChecks, oldReaderChecks, oldNotRead, oldIsRead, oldReading}
 use Rattle.method.specs.OldProgram.{oldTaken, oldPosed, oldPrinted}

@@ -19,8 +19,9 @@ pub record OldIsRead (t : Settings) (input : List ℕ) (s : Sides) (vs : List �
   pub sides : s ≡ oldHeader input .sides
   pub values : take (cells s) vs ≡ oldValuesIn (oldHeader input)
 
--- THE PROMISE of a program that takes old sessions: of every one whose front was handed in (all of it, where it is no longer), the print stands at the front of the
--- output, all else of the output is as it was, and the print's length comes back
+-- THE PROMISE of a program that takes old sessions: of every one whose front was handed in (all of it, where it is no
+-- longer), the print stands at the front of the output, all else of the output is as it was, and the print's length
+-- comes back
 pub record OldProgramOf (t : Settings) (front old new : List ℕ) (r : ℕ) : Type 0 where
   pub prints : (bs : List ℕ) → take oldBuffer bs ≡ front → PutShort (printRoom largeRoom) (oldPrinted largeRoom t bs) old 0 new r
   pub within : r ≤ length new

@@ -1,4 +1,5 @@
-// The answer to one old session, with settings that the caller passes, printed as the program prints (document 02, wish 2): the reader's where it refuses, else the solver's.
+// The answer to one old session, with settings that the caller passes, printed as the program prints (document 02, wish
+// 2): the reader's where it refuses, else the solver's.
 ghost use lib.ListN.{length};
 ghost use Rattle.method.specs.OldProgram.{oldPrinted};
 ghost use Rattle.show.specs.Shows.{printRoom, PutShort};
@@ -43,8 +44,8 @@ fn solve_old(
     )
 }
 
-// Puts the print that is due to an old session at the front of the output, and answers how many bytes it has. There is room for as many cells as there are
-// values; all else that is lent is scratch.
+// Puts the print that is due to an old session at the front of the output, and answers how many bytes it has. There is
+// room for as many cells as there are values; all else that is lent is scratch.
 pub fn respond_old(
     settings: Settings,
     input: &[u8],

@@ -1,5 +1,5 @@
--- Round trips of the code, from the promises alone: what `write_old` wrote, `read_old` and `old_labels` hand back, with the unit; and what they
--- accepted, `write_old` writes with that unit as the same bytes. Assumes nothing.
+-- Round trips of the code, from the promises alone: what `write_old` wrote, `read_old` and `old_labels` hand back, with
+-- the unit; and what they accepted, `write_old` writes with that unit as the same bytes. Assumes nothing.
 use mathlib.Core.Path.{_≡_, refl, sym, ap, ap₂, subst, _∙_}
 use mathlib.Core.Bool.{true}
 use mathlib.Core.List.{List, _++_}
@@ -11,7 +11,8 @@ use Rattle.laws.proofs.Lists.{length-tab}
 use Rattle.method.specs.declared.Sides.{Sides}
 use Rattle.method.specs.declared.Settings.{Settings}
 use Rattle.method.specs.Cast.{cells, settingsFit}
-use Rattle.method.specs.Answers.{done, filled}
+use Rattle.method.specs.Answers.{done}
+use Rattle.method.specs.Rooms.{filled}
 use Rattle.method.specs.OldForm.{OldReading, oldNamed, oldLabelsIn, oldValuesIn, oldCastIn, oldValueRead, OldWriting, oldBytesOf, oldReading, oldWriting, oldIsRead}
 use Rattle.theory.specs.Sessions.{Bytes, WrittenBack}
 use Rattle.theory.specs.OldSessions.{OldRead0, OldWritten0, OldReadBack, oldToRead, oldAgain}

@@ -1,4 +1,5 @@
--- Laws of the writer: check 13 by sizes, lengths, the checks in their order, and what it makes of a judgement. Assumes nothing.
+-- Laws of the writer: check 13 by sizes, lengths, the checks in their order, and what it makes of a judgement. Assumes
+-- nothing.
 use mathlib.Core.Path.{_≡_, refl, sym, ap, ap₂, _∙_}
 use mathlib.Core.Logic.{⊎-elim}
 use mathlib.Core.Bool.{Bool, true, false, not, _&&_, false≢true}
@@ -21,20 +22,21 @@ use Rattle.method.specs.declared.Answer.{Answer}
 use Rattle.method.specs.declared.Sides.{Sides}
 use Rattle.method.specs.declared.Found.{Found}
 use Rattle.method.specs.Cast.{cells, sidesFit, first}
-use Rattle.method.specs.Answers.{fault, passed, refused, verdict, refusal, done, filled}
+use Rattle.method.specs.Answers.{fault, passed, refused, verdict, refusal, done}
+use Rattle.method.specs.Rooms.{filled}
 use Rattle.method.specs.OldForm.{stored, fits16, expressible, notExpressible, oldHeaderWritten, oldWritten, unitFits, OldWriting, oldBytesOf, oldLengthsFit, oldWriterChecks, oldWriting}
 use Rattle.theory.proofs.Firsts.{none-none, none-more, none-end, hit}
 use Rattle.theory.specs.Sides.{Fit}
 use Rattle.theory.proofs.Sides.{fit}
-use Rattle.theory.proofs.Verdicts.{no-fault}
+use Rattle.theory.proofs.Verdicts.{no-fault, verdict-agree, fails-at, passes-on, fault-no, fault-yes}
 use Rattle.theory.proofs.OldRoundTrip.{unit-from}
 use Rattle.checks.specs.Faults.{cellRuling}
 use Rattle.checks.specs.Rulings.{rulingOf, rulingBy, firstOf}
 use Rattle.checks.specs.declared.Ruling.{Ruling}
 use Rattle.checks.specs.declared.Ruling.the-variants.{Refused, Allowed}
-use Rattle.checks.proofs.RuleLaws.{verdict-agree, ruling-last, ruling-more, fails-at, passes-on, both-allowed, ruled-none, fault-no, fault-yes}
+use Rattle.checks.proofs.RuleLaws.{ruling-last, ruling-more, both-allowed, ruled-none}
 use Rattle.checks.proofs.CheckLaws.{cells-ruled, small-cell, within-both}
-use Rattle.words.proofs.WordLaws.{below, above}
+use Rattle.whole.proofs.Signs.{below, above}
 use Rattle.puts.specs.Puts.{Put}
 use Rattle.old_put.specs.OldPuts.{OldHeaderLength}
 use Rattle.old_put.proofs.PartLaws.{written-length}

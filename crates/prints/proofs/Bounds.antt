@@ -7,9 +7,11 @@ use lib.IntN.{ℤ, pos, natAbs}
 use Rattle.laws.specs.Whole.{_-ᶻ_, _*ᶻ_}
 use Rattle.method.specs.declared.Answer.{Answer}
 use Rattle.method.specs.Cast.{labelAt, field}
-use Rattle.method.specs.Form.{header, labelsIn, castIn}
+use Rattle.method.specs.Reading.{header}
+use Rattle.method.specs.Form.{labelsIn, castIn}
 use Rattle.method.specs.Answers.{refusal}
-use Rattle.method.specs.Calls.{Solved, lineCheck, sideCheck, bodyCheck, contentChecks, solving}
+use Rattle.method.specs.Solving.{Solved, solving}
+use Rattle.method.specs.Reading.{lineCheck, sideCheck, bodyCheck, contentChecks}
 use Rattle.method.specs.Program.{programRoom, programChecks, print, asked, shown, printed, program}
 use Rattle.theory.specs.Exact.{Solves, bound}
 use Rattle.theory.proofs.Verdicts.{Judged, fine, faulty, judge}

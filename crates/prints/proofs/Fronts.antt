@@ -1,5 +1,5 @@
--- The front of a long input decides the print: a header has at most 94 bytes, and a body of more than 5 bytes for each cell that there is room for
--- is not 5 bytes a cell. Assumes nothing.
+-- The front of a long input decides the print: a header has at most 94 bytes, and a body of more than 5 bytes for each
+-- cell that there is room for is not 5 bytes a cell. Assumes nothing.
 use mathlib.Core.Path.{_≡_, refl, sym, ap, ap₂, _∙_}
 use mathlib.Core.Bool.{Bool, true, false, not, cond}
 use mathlib.Core.List.{List, [], _∷_, _++_}
@@ -17,13 +17,15 @@ use Rattle.laws.proofs.Naturals.{le-or-lt}
 use Rattle.method.specs.declared.Found.{Found}
 use Rattle.method.specs.declared.Found.the-variants.{Nowhere, At}
 use Rattle.method.specs.Cast.{between, cells, sidesFit}
-use Rattle.method.specs.Form.{lastDigit, spelled, decimal, orderWord, line, headerWritten, digits, isDigit, isNumber, valueOf, Line, bad, good, after, closed, numberLine, orderLine, lines, Lines, wrong, right, more, readLines, headerOf, header, wrongLine, badLine}
+use Rattle.method.specs.Numbers.{lastDigit, spelled, decimal, digits, isDigit, isNumber, valueOf}
+use Rattle.method.specs.Form.{orderWord, line, headerWritten, Line, bad, good, after, closed, numberLine, orderLine, lines, Lines, wrong, right, more, readLines, headerOf, wrongLine, badLine}
+use Rattle.method.specs.Reading.{header}
 use Rattle.method.specs.OldForm.{numberTo}
 use Rattle.method.specs.Answers.{Verdict, refused, verdict}
-use Rattle.method.specs.Calls.{lineCheck, sideCheck, bodyCheck}
+use Rattle.method.specs.Reading.{lineCheck, sideCheck, bodyCheck}
 use Rattle.method.specs.Program.{programRoom, programChecks, printed, program}
 use Rattle.theory.proofs.Lines.{after-is, line-to}
-use Rattle.checks.proofs.RuleLaws.{fails-at, passes-on, fault-no, fault-yes}
+use Rattle.theory.proofs.Verdicts.{fails-at, passes-on, fault-no, fault-yes}
 use Rattle.prints.specs.Prints.{longestHeader, bufferFor, inputRoom, largeRoom}
 use Rattle.prints.proofs.Rules.{bare, printed-refused, fault-too-many, fault-none}
 
@@ -333,7 +335,8 @@ early-print room bs cs Nowhere false u x y = printed-refused room bs 1 0 x ∙ s
 early-print room bs cs Nowhere true true x y = printed-refused room bs 2 0 x ∙ sym (printed-refused room cs 2 0 y)
 early-print room bs cs Nowhere true false x y = printed-refused room bs 11 0 x ∙ sym (printed-refused room cs 11 0 y)
 
--- THE FRONT DECIDES: what follows 5 bytes a cell of room, one byte more and 94 bytes of header, changes nothing that is printed
+-- THE FRONT DECIDES: what follows 5 bytes a cell of room, one byte more and 94 bytes of header, changes nothing that is
+-- printed
 pub front-decides : (room : ℕ) (bs tail : List ℕ) → 5 * room + 1 + 94 ≤ length bs → printed room (bs ++ tail) ≡ printed room bs
 front-decides room bs tail h =
     let f = badLine bs in

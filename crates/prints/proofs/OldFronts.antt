@@ -1,5 +1,6 @@
--- The front of a long old session decides what is printed of it, and what it is in the new form: its two lines have at most 42 bytes, and a body of more than
--- 3 bytes for each cell of the greatest cast is not 3 bytes a cell. Assumes nothing.
+-- The front of a long old session decides what is printed of it, and what it is in the new form: its two lines have at
+-- most 42 bytes, and a body of more than 3 bytes for each cell of the greatest cast is not 3 bytes a cell. Assumes
+-- nothing.
 use mathlib.Core.Path.{_≡_, refl, sym, ap, _∙_}
 use mathlib.Core.Bool.{Bool, true, false}
 use mathlib.Core.List.{List, [], _∷_, _++_}
@@ -18,15 +19,16 @@ use Rattle.method.specs.declared.Order.{Order}
 use Rattle.method.specs.declared.Found.{Found}
 use Rattle.method.specs.declared.Found.the-variants.{Nowhere, At}
 use Rattle.method.specs.Cast.{cells, sidesFit}
-use Rattle.method.specs.Form.{lastDigit, spelled, decimal, line, Lines, wrong, right, readLines}
+use Rattle.method.specs.Numbers.{lastDigit, spelled, decimal}
+use Rattle.method.specs.Form.{line, Lines, wrong, right, readLines}
 use Rattle.method.specs.Answers.{Verdict, passed, refused, verdict, refusal}
-use Rattle.method.specs.Calls.{solving}
+use Rattle.method.specs.Solving.{solving}
 use Rattle.method.specs.Program.{print, shown}
 use Rattle.method.specs.OldForm.{oldParts, oldHeaderOf, oldHeader, oldWrongLine, oldBadLine, lineOfPart, sizeWord, oldHeaderWritten, oldLineCheck, oldSideCheck, oldBodyCheck, oldReaderChecks}
 use Rattle.method.specs.OldProgram.{oldTaken, oldPosed, oldPrinted, Renewal, renewal}
 use Rattle.theory.specs.Sides.{Fit}
 use Rattle.theory.proofs.Sides.{fit}
-use Rattle.checks.proofs.RuleLaws.{fails-at, passes-on, fault-no, fault-yes}
+use Rattle.theory.proofs.Verdicts.{fails-at, passes-on, fault-no, fault-yes}
 use Rattle.prints.specs.Prints.{largeRoom, longestOldHeader, oldBuffer}
 use Rattle.prints.proofs.Fronts.{linesOn, Front, Fronts, end, next, to-front, lines-on, Left, lines-left, not-nowhere, large-room}
 

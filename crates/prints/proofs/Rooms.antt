@@ -1,4 +1,5 @@
--- The print does not depend on what the rooms and the pressures hold when the solver is called, nor on how long a room is beyond the need. Assumes nothing.
+-- The print does not depend on what the rooms and the pressures hold when the solver is called, nor on how long a room
+-- is beyond the need. Assumes nothing.
 use mathlib.Core.Path.{_≡_, refl, sym, ap, ap₂, _∙_}
 use mathlib.Core.Bool.{true, not}
 use mathlib.Core.List.{List, _++_, flatMap}
@@ -10,15 +11,15 @@ use lib.Ieee.{Float}
 use Rattle.laws.specs.Text.{text}
 use Rattle.method.specs.declared.Answer.{Answer}
 use Rattle.method.specs.declared.Settings.{Settings}
-use Rattle.method.specs.Cast.{Cast, interior, depth}
+use Rattle.method.specs.Cast.{Cast, interior}
+use Rattle.method.specs.Walks.{depth}
 use Rattle.method.specs.Form.{line}
 use Rattle.method.specs.Answers.{Check, Verdict, passed, refused, verdict, fault, refusal, unfinished}
 use Rattle.method.specs.Rounds.{pass, fail, ending}
-use Rattle.method.specs.Calls.{Asked, Solved, lengthsFit, checksBefore7, checksFrom7, untouched, handedBack, answerOf, pressuresOf, ended, solving}
+use Rattle.method.specs.Solving.{Asked, Solved, lengthsFit, checksBefore7, checksFrom7, untouched, handedBack, answerOf, pressuresOf, ended, solving}
 use Rattle.method.specs.Program.{whole, answerLines, print, shown}
-use Rattle.theory.proofs.Verdicts.{Numbered, Judged, fine, faulty, judge, not-passed}
+use Rattle.theory.proofs.Verdicts.{Numbered, Judged, fine, faulty, judge, not-passed, verdict-agree}
 use Rattle.theory.proofs.Ends.{Ended, passing, failing, ending-is}
-use Rattle.checks.proofs.RuleLaws.{verdict-agree}
 
 -- pressures are shown on 0 alone
 pub print-other : (r : Answer) (ps qs : List ℤ) → 1 ≤ r .number → print r ps ≡ print r qs

@@ -1,4 +1,5 @@
--- The program's checks: 2 where there are too many cells, else those of the reader; and what is printed by each verdict. Assumes nothing.
+-- The program's checks: 2 where there are too many cells, else those of the reader; and what is printed by each
+-- verdict. Assumes nothing.
 use mathlib.Core.Path.{_≡_, refl, sym, ap, _∙_}
 use mathlib.Core.Bool.{Bool, true, false, _&&_}
 use mathlib.Core.List.{List, [], _∷_}
@@ -11,11 +12,13 @@ use lib.ListN.{length}
 use Rattle.method.specs.declared.Found.{Found}
 use Rattle.method.specs.declared.Found.the-variants.{Nowhere, At}
 use Rattle.method.specs.Cast.{between, cells, sidesFit}
-use Rattle.method.specs.Form.{Lines, wrong, right, wrongLine, readLines, lines, headerOf, header, badLine}
+use Rattle.method.specs.Form.{Lines, wrong, right, wrongLine, readLines, lines, headerOf, badLine}
+use Rattle.method.specs.Reading.{header}
 use Rattle.method.specs.Answers.{check, fault, passed, refused, verdict, refusal}
-use Rattle.method.specs.Calls.{Reading, named, lineCheck, sideCheck, bodyCheck, roomCheck, contentChecks, readerChecks, solving}
+use Rattle.method.specs.Solving.{solving}
+use Rattle.method.specs.Reading.{Reading, named, lineCheck, sideCheck, bodyCheck, roomCheck, contentChecks, readerChecks}
 use Rattle.method.specs.Program.{programChecks, print, asked, shown, printed}
-use Rattle.checks.proofs.RuleLaws.{fails-at, passes-on, verdict-agree, fault-no, fault-yes}
+use Rattle.theory.proofs.Verdicts.{fails-at, passes-on, verdict-agree, fault-no, fault-yes}
 use Rattle.prints.specs.Prints.{crowded}
 
 -- ---- what is printed, by the verdict

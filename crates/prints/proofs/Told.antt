@@ -1,4 +1,5 @@
--- A print says its numbers: two answers with the same print are the same, and on 0 so are their pressures. Assumes nothing.
+-- A print says its numbers: two answers with the same print are the same, and on 0 so are their pressures. Assumes
+-- nothing.
 use mathlib.Core.Path.{_≡_, refl, sym, ap, ap₂, _∙_}
 use mathlib.Core.List.{List, [], _∷_, _++_, append-assoc, append-nil, flatMap}
 use Prim.Native.Nat.{ℕ, zero, suc, _+_, _≤_}
@@ -9,7 +10,8 @@ use lib.Seq.{drop-append-seam}
 use Rattle.laws.specs.Text.{text}
 use Rattle.method.specs.declared.Answer.{Answer}
 use Rattle.method.specs.Cast.{between}
-use Rattle.method.specs.Form.{lastDigit, spelled, decimal, isDigit, digits, valueOf, line}
+use Rattle.method.specs.Numbers.{lastDigit, spelled, decimal, isDigit, digits, valueOf}
+use Rattle.method.specs.Form.{line}
 use Rattle.method.specs.Program.{whole, answerLines, print}
 use Rattle.theory.proofs.Digits.{decimal-stop, value-decimal}
 

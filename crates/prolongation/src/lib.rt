@@ -1,5 +1,6 @@
-// Prolongation, a row of fine cells at a time: the four coarse rows in ascending order, each added to the sums of all fine cells of the row, which stand
-// in t. What isn't air holds +0.0 and adds nothing, so no coarse label is read; then each sum over 16 is added to u where the fine cell is air.
+// Prolongation, a row of fine cells at a time: the four coarse rows in ascending order, each added to the sums of all
+// fine cells of the row, which stand in t. What isn't air holds +0.0 and adds nothing, so no coarse label is read; then
+// each sum over 16 is added to u where the fine cell is air.
 ghost use mathlib.Core.Path.{_≡_};
 ghost use Prim.Native.Nat.{_+_, _-_, _*_, _/_, _%_, _≤_, _<_};
 ghost use lib.ListN.{length, take, drop};
@@ -217,7 +218,8 @@ fn add_sums(room: &mut [f64], labels: &[u8])
     }
 }
 
-// The fine u with the prolongated coarse u added, which is +0.0 off air; t then holds the sums. The room: the fine u, b and t, the coarse u, b and t, and more.
+// The fine u with the prolongated coarse u added, which is +0.0 off air; t then holds the sums. The room: the fine u, b
+// and t, the coarse u, b and t, and more.
 pub fn correct(room: &mut [f64], labels: &[u8], below: &[u8], g: method::Sides, h: method::Sides)
     requires { ⌜ TwoLevels g h (now labels) (now below) ⌝ }
     requires { ⌜ 3 * cells g + 3 * cells h ≤ length (now room) ⌝ }

@@ -10,7 +10,7 @@ use lib.ListN.{length, length-append}
 use mir.Syntax.{w64}
 use mir.Val.{Fits}
 use Rattle.laws.proofs.Naturals.{le-or-lt}
-use Rattle.method.specs.Form.{decimal}
+use Rattle.method.specs.Numbers.{decimal}
 use Rattle.theory.proofs.Digits.{decimal-short, decimal-more}
 use Rattle.puts.specs.Puts.{Put, DigitsOf}
 use Rattle.puts.proofs.PutLaws.{put-length, put-then}

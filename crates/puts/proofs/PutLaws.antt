@@ -8,7 +8,8 @@ use borrow.Author.Needs.{needs}
 use lib.ListN.{length, getD, take, set, length-append, length-set}
 use lib.Seq.{sets, length-sets, take-suc, take-all, length-take-le}
 use Rattle.laws.specs.Text.{text}
-use Rattle.method.specs.Form.{decimal, line}
+use Rattle.method.specs.Numbers.{decimal}
+use Rattle.method.specs.Form.{line}
 use Rattle.puts.specs.Puts.{Put}
 
 -- ---- one part after the other

@@ -2,7 +2,7 @@
 ghost use mathlib.Core.List.{[], _∷_};
 ghost use Prim.Native.Nat.{_+_, _<_, _≤_};
 ghost use lib.ListN.{length};
-ghost use Rattle.method.specs.Form.{decimal};
+ghost use Rattle.method.specs.Numbers.{decimal};
 ghost use Rattle.puts.specs.Puts.{Put, DigitsOf};
 
 // How many digits a number has.

@@ -4,7 +4,8 @@ pub mod decimal;
 ghost use mathlib.Core.List.{_++_};
 ghost use Prim.Native.Nat.{_+_, _≤_};
 ghost use lib.ListN.{length};
-ghost use Rattle.method.specs.Form.{decimal as Form·decimal, line};
+ghost use Rattle.method.specs.Numbers.{decimal as Form·decimal};
+ghost use Rattle.method.specs.Form.{line};
 ghost use Rattle.puts.specs.Puts.{Put};
 use decimal::put_decimal;
 

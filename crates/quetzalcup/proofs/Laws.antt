@@ -1,4 +1,5 @@
--- Needs by sides in range and out of it; orders and their numbers; what the reader and the writer hand on. Assumes nothing.
+-- Needs by sides in range and out of it; orders and their numbers; what the reader and the writer hand on. Assumes
+-- nothing.
 use mathlib.Core.Path.{_≡_, sym, ap, _∙_}
 use mathlib.Core.Bool.{Bool, true, false}
 use mathlib.Core.List.{List}

@@ -1,4 +1,5 @@
--- Each promise of the C interface allows one result and one final content of what was lent (`quetz_solve`'s is `solve-one`). Assumes nothing.
+-- Each promise of the C interface allows one result and one final content of what was lent (`quetz_solve`'s is
+-- `solve-one`). Assumes nothing.
 use mathlib.Core.Path.{_≡_, sym, ap, ap₂, _∙_}
 use mathlib.Core.List.{List}
 use Prim.Native.Nat.{ℕ}

@@ -1,4 +1,5 @@
--- What the C interface says differently from the calls behind it: an order is a number, and a need is 0 where there is no cast.
+-- What the C interface says differently from the calls behind it: an order is a number, and a need is 0 where there is
+-- no cast.
 use mathlib.Core.Path.{_≡_}
 use mathlib.Core.Bool.{cond}
 use mathlib.Core.List.{List}
@@ -13,10 +14,11 @@ use Rattle.method.specs.declared.Answer.{Answer}
 use Rattle.method.specs.Cast.{cells, sidesFit}
 use Rattle.method.specs.Form.{orderOf}
 use Rattle.method.specs.Answers.{refusal}
-use Rattle.method.specs.Calls.{reading, writing}
+use Rattle.method.specs.Reading.{reading}
+use Rattle.method.specs.Writing.{writing}
 use Rattle.session_write.specs.Writes.{offered}
 use Rattle.session_write.specs.declared.Written.{Written}
-use Rattle.method.specs.Calls as calls
+use Rattle.method.specs.Writing as calls
 use Rattle.quetzalcup.specs.declared.Read.{Read}
 
 -- a need by the number of cells; of sides that are out of range, 0

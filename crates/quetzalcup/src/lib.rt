@@ -1,6 +1,7 @@
-// The C interface (include/quetzalcup.h): each function calls the one that it names, hands on its whole promise and asks nothing of its caller.
+// The C interface (include/quetzalcup.h): each function calls the one that it names, hands on its whole promise and
+// asks nothing of its caller.
 ghost use mathlib.Core.Path.{_≡_};
-ghost use Rattle.method.specs.Answers.{byteNeed, floatNeed, wordNeed};
+ghost use Rattle.method.specs.Rooms.{byteNeed, floatNeed, wordNeed};
 ghost use Rattle.solve.specs.Solve.{asked, SolveOf};
 ghost use Rattle.many.specs.ManySolve.{askedMany, SolveManyOf};
 ghost use Rattle.old_read.specs.OldReads.{OldReadOf};

@@ -15,9 +15,11 @@ use Rattle.method.specs.declared.Order.{Order}
 use Rattle.method.specs.declared.Order.the-variants.{Big, Little}
 use Rattle.method.specs.declared.Settings.{Settings}
 use Rattle.method.specs.Cast.{Cast, between, cells, sidesFit, settingsFit}
-use Rattle.method.specs.Form.{decimal, headerWritten, written}
-use Rattle.method.specs.Answers.{fault, passed, verdict, refusal, done, filled}
-use Rattle.method.specs.Calls.{Writing, Written, bytesOf, writerLengthsFit, writerChecks, writing}
+use Rattle.method.specs.Numbers.{decimal}
+use Rattle.method.specs.Form.{headerWritten, written}
+use Rattle.method.specs.Answers.{fault, passed, verdict, refusal, done}
+use Rattle.method.specs.Rooms.{filled}
+use Rattle.method.specs.Writing.{Writing, Written, bytesOf, writerLengthsFit, writerChecks, writing}
 use Rattle.method.specs.OldForm.{OldReading, oldHeader, oldLabelsIn, oldValuesIn, oldCastIn, unitFits, oldLineCheck, oldSideCheck, oldBodyCheck, oldRoomCheck, oldContentChecks, oldReaderChecks, oldNotRead, oldIsRead, oldReading}
 use Rattle.method.specs.OldProgram.{oldTaken, renewal}
 use Rattle.theory.specs.Sides.{Fit}

@@ -5,7 +5,7 @@ use mathlib.Core.List.{List}
 use lib.ListN.{length, take}
 use Rattle.method.specs.declared.Order.{Order}
 use Rattle.method.specs.declared.Settings.{Settings}
-use Rattle.method.specs.Answers.{filled}
+use Rattle.method.specs.Rooms.{filled}
 use Rattle.method.specs.OldProgram.{renewal}
 use Rattle.prints.specs.Prints.{largeRoom, oldBuffer}
 use Rattle.session_write.specs.declared.Written.{Written}

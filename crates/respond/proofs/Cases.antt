@@ -1,4 +1,5 @@
--- Document 01's own example, by the promise of `respond`: with room for 1,000 cells the nine lines stand at the front of the output. Assumes nothing.
+-- Document 01's own example, by the promise of `respond`: with room for 1,000 cells the nine lines stand at the front
+-- of the output. Assumes nothing.
 use mathlib.Core.Path.{_≡_, ap, _∙_}
 use mathlib.Core.List.{List}
 use Prim.Native.Nat.{ℕ, _+_}

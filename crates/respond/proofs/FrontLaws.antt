@@ -1,11 +1,12 @@
--- A program's promise from that of `respond`, with rooms for as many cells as the program has room for. Assumes nothing.
+-- A program's promise from that of `respond`, with rooms for as many cells as the program has room for. Assumes
+-- nothing.
 use mathlib.Core.Path.{_≡_, sym}
 use mathlib.Core.List.{List}
 use Prim.Native.Nat.{ℕ, _+_, _*_, _≤_}
 use native.Mathlib.Omega.{arith}
 use lib.ListN.{length, take}
 use lib.Seq.{length-take-le}
-use Rattle.method.specs.Answers.{byteNeed, floatNeed, wordNeed}
+use Rattle.method.specs.Rooms.{byteNeed, floatNeed, wordNeed}
 use Rattle.method.specs.Program.{printed}
 use Rattle.prints.proofs.Fronts.{front-prints-for}
 use Rattle.puts.proofs.PutLaws.{put-length}

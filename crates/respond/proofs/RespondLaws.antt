@@ -1,4 +1,5 @@
--- Laws of the response: too many cells, the reader's refusal, the solver's answer in rooms that may be longer than needed. Assumes nothing.
+-- Laws of the response: too many cells, the reader's refusal, the solver's answer in rooms that may be longer than
+-- needed. Assumes nothing.
 use mathlib.Core.Path.{_≡_, sym, ap, ap₂, _∙_}
 use mathlib.Core.Bool.{Bool, true, false, _&&_}
 use mathlib.Core.List.{List, []}
@@ -17,9 +18,12 @@ use Rattle.method.specs.declared.Answer.{Answer}
 use Rattle.method.specs.declared.Sides.{Sides}
 use Rattle.method.specs.declared.Settings.{Settings}
 use Rattle.method.specs.Cast.{Cast, between, cells, sidesFit}
-use Rattle.method.specs.Form.{headerOf, header, labelsIn, valuesIn, castIn, valueRead}
-use Rattle.method.specs.Answers.{passed, verdict, refusal, done, filled, byteNeed, floatNeed, wordNeed}
-use Rattle.method.specs.Calls.{Asked, Reading, lengthsFit, lineCheck, sideCheck, bodyCheck, roomCheck, contentChecks, readerChecks, notRead, isRead, reading, solving}
+use Rattle.method.specs.Form.{headerOf, labelsIn, valuesIn, castIn, valueRead}
+use Rattle.method.specs.Reading.{header}
+use Rattle.method.specs.Answers.{passed, verdict, refusal, done}
+use Rattle.method.specs.Rooms.{filled, byteNeed, floatNeed, wordNeed}
+use Rattle.method.specs.Solving.{Asked, lengthsFit, solving}
+use Rattle.method.specs.Reading.{Reading, lineCheck, sideCheck, bodyCheck, roomCheck, contentChecks, readerChecks, notRead, isRead, reading}
 use Rattle.method.specs.Program.{programChecks, print, shown, printed}
 use Rattle.method.specs.Program as program
 use Rattle.theory.specs.Sides.{Fit}

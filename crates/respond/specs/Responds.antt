@@ -8,8 +8,10 @@ use lib.ListN.{length, take}
 use Rattle.method.specs.declared.Sides.{Sides}
 use Rattle.method.specs.declared.Settings.{Settings}
 use Rattle.method.specs.Cast.{cells}
-use Rattle.method.specs.Form.{header, valuesIn}
-use Rattle.method.specs.Answers.{passed, verdict, byteNeed, floatNeed, wordNeed}
+use Rattle.method.specs.Reading.{header}
+use Rattle.method.specs.Form.{valuesIn}
+use Rattle.method.specs.Answers.{passed, verdict}
+use Rattle.method.specs.Rooms.{byteNeed, floatNeed, wordNeed}
 use Rattle.method.specs.Program.{programChecks, printed}
 use Rattle.show.specs.Shows.{printRoom, PutShort}
 use Rattle.prints.specs.Prints.{crowded, bufferFor}
@@ -31,8 +33,9 @@ pub record IsRead (limit : ℕ) (input : List ℕ) (s : Sides) (t : Settings) (v
   pub settings : t ≡ header input .settings
   pub values : take (cells s) vs ≡ valuesIn (header input)
 
--- THE PROMISE of a program with room for so many cells: of every input whose front was handed in (all of it, where it is no longer), the print stands at the front
--- of the output, all else of the output is as it was, and the print's length comes back
+-- THE PROMISE of a program with room for so many cells: of every input whose front was handed in (all of it, where it
+-- is no longer), the print stands at the front of the output, all else of the output is as it was, and the print's
+-- length comes back
 pub record FrontOf (room : ℕ) (front old new : List ℕ) (r : ℕ) : Type 0 where
   pub prints : (bs : List ℕ) → take (bufferFor room) bs ≡ front → PutShort (printRoom room) (printed room bs) old 0 new r
   pub within : r ≤ length new

@@ -5,7 +5,7 @@ ghost use Prim.Native.Nat.{_≤_};
 ghost use lib.Dec.{ltb};
 ghost use lib.ListN.{length};
 ghost use Rattle.method.specs.Cast.{cells, sidesFit};
-ghost use Rattle.method.specs.Calls.{solving};
+ghost use Rattle.method.specs.Solving.{solving};
 ghost use Rattle.method.specs.Program.{shown, printed};
 ghost use Rattle.show.specs.Shows.{printRoom, PutShort};
 ghost use Rattle.solve.specs.Solve.{asked};
@@ -139,7 +139,8 @@ fn answered(
     )
 }
 
-// Puts the print that is due to a session at the front of the output, and answers how many bytes it has. All else that is lent is scratch.
+// Puts the print that is due to a session at the front of the output, and answers how many bytes it has. All else that
+// is lent is scratch.
 pub fn respond(
     input: &[u8],
     limit: usize,

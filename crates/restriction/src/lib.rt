@@ -1,5 +1,6 @@
-// Restriction, a row of coarse cells at a time: the sixteen fine rows in ascending order, each added to all coarse cells of the row. What isn't air
-// holds +0.0 and adds nothing, so no fine label is read; then each sum over 512 where the coarse cell is air.
+// Restriction, a row of coarse cells at a time: the sixteen fine rows in ascending order, each added to all coarse
+// cells of the row. What isn't air holds +0.0 and adds nothing, so no fine label is read; then each sum over 512 where
+// the coarse cell is air.
 ghost use mathlib.Core.Path.{_≡_};
 ghost use Prim.Native.Nat.{_+_, _*_, _/_, _%_, _≤_, _<_};
 ghost use lib.ListN.{length, take, drop};
@@ -174,7 +175,8 @@ fn end_sums(room: &mut [f64], below: &[u8], o: usize)
     }
 }
 
-// The coarse b becomes the restricted fine t, which is +0.0 off air. The room: the fine u, b and t, the coarse u, b and t, and more.
+// The coarse b becomes the restricted fine t, which is +0.0 off air. The room: the fine u, b and t, the coarse u, b and
+// t, and more.
 pub fn restrict(room: &mut [f64], labels: &[u8], below: &[u8], g: method::Sides, h: method::Sides)
     requires { ⌜ TwoLevels g h (now labels) (now below) ⌝ }
     requires { ⌜ 3 * cells g + 3 * cells h ≤ length (now room) ⌝ }

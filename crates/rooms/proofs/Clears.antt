@@ -10,7 +10,7 @@ use Rattle.laws.specs.Loops.{up}
 use Rattle.laws.specs.Lists.{tab}
 use Rattle.laws.proofs.Loops.{ups}
 use Rattle.laws.proofs.Fills.{filled-front}
-use Rattle.method.specs.Answers.{byteNeed, floatNeed, wordNeed, cleared}
+use Rattle.method.specs.Rooms.{byteNeed, floatNeed, wordNeed, cleared}
 
 -- ---- needs
 pub byte-need-is : (n : ℕ) → 2 * n + 16 ≡ byteNeed n

@@ -7,7 +7,7 @@ use borrow.Author.Needs.{needs}
 use borrow.Rule.Slice.PartMut.{midOf, putMid}
 use lib.ListN.{length, take, drop, length-drop, drop-of-length-le}
 use lib.Seq.{take-all}
-use Rattle.method.specs.Answers.{cleared}
+use Rattle.method.specs.Rooms.{cleared}
 
 module _ {A : Type 0} (a : ℕ) (d : List A) where
   pub lent-is : midOf a (length d - a) d ≡ drop a d

@@ -5,7 +5,7 @@ ghost use mathlib.Core.List.{_++_};
 ghost use Prim.Native.Nat.{_+_, _≤_};
 ghost use lib.ListN.{length, take, drop};
 ghost use Rattle.laws.specs.Binary64.{+0};
-ghost use Rattle.method.specs.Answers.{byteNeed, floatNeed, wordNeed, cleared};
+ghost use Rattle.method.specs.Rooms.{byteNeed, floatNeed, wordNeed, cleared};
 
 // How many bytes n cells need.
 pub fn byte_need(n: usize) -> usize

@@ -20,9 +20,10 @@ use Rattle.method.specs.Cast.{Cast, cells, worst}
 use Rattle.answers.specs.declared.Ended.{Ended}
 use Rattle.answers.specs.declared.Ended.the-variants.{Accepted, Unfinished}
 use Rattle.answers.specs.Ends.{endOf}
-use Rattle.method.specs.Levels.{value, inAir}
+use Rattle.method.specs.Transfers.{value, inAir}
 use Rattle.method.specs.Cycle.{applied, zeros}
-use Rattle.method.specs.Rounds.{State, Turn, stalled, turned, End, solved, failed, passes, rounded, step, scalars, moved, round, rightSide, pass, fail, run, start}
+use Rattle.method.specs.Ticks.{passes, rounded}
+use Rattle.method.specs.Rounds.{State, Turn, stalled, turned, End, solved, failed, step, scalars, moved, round, rightSide, pass, fail, run, start}
 use Rattle.theory.proofs.Quiet.{quiet-zeros, quiet-right}
 use Rattle.smooth.proofs.After.{inAir-length, zeros-length}
 use Rattle.rounds.specs.declared.Plan.{Plan}

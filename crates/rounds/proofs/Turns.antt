@@ -18,7 +18,7 @@ use Rattle.method.specs.declared.Sides.{Sides}
 use Rattle.method.specs.declared.Scalars.{Scalars}
 use Rattle.method.specs.declared.Settings.{Settings}
 use Rattle.method.specs.Cast.{Cast, cells, isAir}
-use Rattle.method.specs.Levels.{value, inAir}
+use Rattle.method.specs.Transfers.{value, inAir}
 use Rattle.method.specs.Cycle.{applied, cycle}
 use Rattle.method.specs.Rounds.{dot, betaOf, direction, scalars}
 use Rattle.theory.specs.Levels.{sidesAt, labelsAt}

@@ -10,9 +10,10 @@ use Rattle.method.specs.declared.Sides.{Sides}
 use Rattle.method.specs.declared.Settings.{Settings}
 use Rattle.method.specs.declared.Scalars.{Scalars}
 use Rattle.method.specs.Cast.{Cast, cells}
-use Rattle.method.specs.Levels.{value, inAir}
+use Rattle.method.specs.Transfers.{value, inAir}
 use Rattle.method.specs.Cycle.{applied, cycle}
-use Rattle.method.specs.Rounds.{State, dot, betaOf, direction, scalars, rounded, run, start}
+use Rattle.method.specs.Ticks.{rounded}
+use Rattle.method.specs.Rounds.{State, dot, betaOf, direction, scalars, run, start}
 use Rattle.theory.specs.Quiet.{Quiet}
 use Rattle.answers.specs.declared.Ended.{Ended}
 use Rattle.answers.specs.Ends.{endOf}

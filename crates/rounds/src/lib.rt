@@ -1,5 +1,5 @@
-// The rounds of conjugate gradients with the V-cycle as preconditioner (document 01, "The rounds"). The binary64 room holds
-// x | p | z r t | and the coarser levels' fields; the cycle works on the room from z on, with z r t as its u b t.
+// The rounds of conjugate gradients with the V-cycle as preconditioner (document 01, "The rounds"). The binary64 room
+// holds x | p | z r t | and the coarser levels' fields; the cycle works on the room from z on, with z r t as its u b t.
 mod scalars;
 
 ghost use mathlib.Core.Path.{_≡_};

@@ -3,7 +3,7 @@ ghost use mathlib.Core.Path.{_≡_};
 ghost use Prim.Native.Nat.{_+_, _*_, _≤_};
 ghost use lib.ListN.{length, take, drop};
 ghost use Rattle.method.specs.Cast.{cells};
-ghost use Rattle.method.specs.Levels.{value};
+ghost use Rattle.method.specs.Transfers.{value};
 ghost use Rattle.method.specs.Rounds.{dot, betaOf, usable, step};
 ghost use Rattle.theory.specs.Quiet.{Quiet};
 ghost use Rattle.fields.specs.Fields.{Held, p-of, z-of, r-of};
@@ -61,7 +61,8 @@ fn inner(room: &[f64], labels: &[u8], g: Sides, a: usize, b: usize) -> f64
     fields::entries::dot(&room[a..c], &room[b..d], n)
 }
 
-// z = cycle(r): the cycle is lent the room from z on, whose last element is spare and becomes the zero that entries read.
+// z = cycle(r): the cycle is lent the room from z on, whose last element is spare and becomes the zero that entries
+// read.
 fn precondition(room: &mut [f64], bytes: &[u8], words: &[u32], plan: Plan, n: usize)
     requires { ⌜ Prepared plan (now bytes) (now words) n (length (now room)) ⌝ }
     ensures { λ _. ⌜ Drawn (planSides plan) (planLabels plan (now (bytes .entry))) (below plan) n (now (room .entry)) (now (room .exit)) ⌝ }

@@ -13,16 +13,18 @@ use Rattle.laws.specs.Lists.{tab}
 use Rattle.method.specs.declared.Answer.{Answer}
 use Rattle.method.specs.declared.Order.the-variants.{Big}
 use Rattle.method.specs.Cast.{cells}
-use Rattle.method.specs.Form.{header, headerOf, labelsIn, valuesIn}
+use Rattle.method.specs.Reading.{header}
+use Rattle.method.specs.Form.{headerOf, labelsIn, valuesIn}
 use Rattle.method.specs.Form as form
-use Rattle.method.specs.Answers.{fault, passed, refused, verdict, refusal, done, filled}
-use Rattle.method.specs.Calls.{Reading, lineCheck, sideCheck, bodyCheck, roomCheck, contentChecks, readerChecks, notRead, isRead, readingBy, reading}
+use Rattle.method.specs.Answers.{fault, passed, refused, verdict, refusal, done}
+use Rattle.method.specs.Rooms.{filled}
+use Rattle.method.specs.Reading.{Reading, lineCheck, sideCheck, bodyCheck, roomCheck, contentChecks, readerChecks, notRead, isRead, readingBy, reading}
 use Rattle.words.specs.Body.{valueIn}
 use Rattle.theory.specs.Sessions.{Bytes}
 use Rattle.theory.specs.Sides.{Fit}
 use Rattle.theory.proofs.Sides.{fit}
 use Rattle.session_read.specs.Reads.{FitIf, ReadOf, asked, takenOf, verdictOf, ReadyIf, JudgedOf}
-use Rattle.checks.proofs.RuleLaws.{verdict-agree}
+use Rattle.theory.proofs.Verdicts.{verdict-agree}
 use Rattle.header.specs.declared.Header.{Header}
 use Rattle.session_read.specs.declared.Judged.{Judged}
 use Rattle.session_read.specs.declared.Taken.{Taken}

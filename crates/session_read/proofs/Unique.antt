@@ -3,7 +3,7 @@ use mathlib.Core.Path.{_≡_, sym, ap, ap₂, _∙_}
 use mathlib.Core.List.{List}
 use Prim.Native.Nat.{ℕ}
 use lib.IntN.{ℤ}
-use Rattle.method.specs.Calls.{reading}
+use Rattle.method.specs.Reading.{reading}
 use Rattle.session_read.specs.Reads.{ReadOf, asked}
 use Rattle.session_read.specs.declared.Session.{Session}
 

@@ -14,9 +14,10 @@ use Rattle.method.specs.declared.Found.the-variants.{Nowhere}
 use Rattle.method.specs.declared.Order.the-variants.{Big}
 use Rattle.theory.specs.Sessions.{Bytes}
 use Rattle.theory.specs.Sides.{Fit}
-use Rattle.method.specs.Form.{header, badLine}
+use Rattle.method.specs.Reading.{header}
+use Rattle.method.specs.Form.{badLine}
 use Rattle.method.specs.Answers.{Verdict, passed, refused, verdict, fault, refusal, done}
-use Rattle.method.specs.Calls.{Reading, readerChecks, reading}
+use Rattle.method.specs.Reading.{Reading, readerChecks, reading}
 use Rattle.checks.specs.Faults.{badLabelAt}
 use Rattle.checks.specs.Rulings.{rulingBy, firstOf}
 use Rattle.words.specs.Body.{badValueIn}
@@ -28,7 +29,8 @@ use Rattle.session_read.specs.declared.Judged.the-variants.{Refused, Pas
 use Rattle.session_read.specs.declared.Session.{Session}
 use Rattle.session_read.specs.declared.Taken.{Taken}
 
--- THE PROMISE of `read`: what comes back, and what the lent values hold, are those of method's `reading`; and what was read is bytes, as its type says.
+-- THE PROMISE of `read`: what comes back, and what the lent values hold, are those of method's `reading`; and what was
+-- read is bytes, as its type says.
 pub record ReadOf (bytes : List ℕ) (old : List ℤ) (r : Session) (new : List ℤ) : Type 0 where
   pub answer : r .answer ≡ reading (record { bytes = bytes; values = old }) .answer
   pub sides : r .sides ≡ reading (record { bytes = bytes; values = old }) .header .sides

@@ -1,7 +1,7 @@
 // The reader's checks, in document 01's order: 10, 1, 11, 2, 3, 4, 5.
 ghost use mathlib.Core.Path.{_≡_};
 ghost use Rattle.method.specs.Answers.{verdict};
-ghost use Rattle.method.specs.Calls.{contentChecks};
+ghost use Rattle.method.specs.Reading.{contentChecks};
 ghost use Rattle.header.specs.Lines.{HeaderOf};
 ghost use Rattle.session_read.specs.Reads.{Bodied, JudgedOf, Sized, asked};
 ghost use Rattle.checks.specs.Rulings.{rulingOf};

@@ -4,7 +4,7 @@ mod judge;
 mod sizes;
 
 ghost use mathlib.Core.Path.{_≡_};
-ghost use Rattle.method.specs.Calls.{reading};
+ghost use Rattle.method.specs.Reading.{reading};
 ghost use Rattle.session_read.specs.Reads.{FitIf, ReadOf, asked, takenOf};
 use answers::refusal;
 use grid::place::cell_count;

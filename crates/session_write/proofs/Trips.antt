@@ -1,4 +1,5 @@
--- Round trips of the code, by its promises: what `write` left is what `read` and `labels` give back, and what `read` accepted is what `write` leaves. Assumes nothing.
+-- Round trips of the code, by its promises: what `write` left is what `read` and `labels` give back, and what `read`
+-- accepted is what `write` leaves. Assumes nothing.
 use mathlib.Core.Path.{_≡_, sym, ap, ap₂, _∙_}
 use mathlib.Core.List.{List}
 use Prim.Native.Nat.{ℕ, _+_, _*_, _≤_}
@@ -12,9 +13,12 @@ use Rattle.method.specs.declared.Sides.{Sides}
 use Rattle.method.specs.declared.Order.{Order}
 use Rattle.method.specs.declared.Settings.{Settings}
 use Rattle.method.specs.Cast.{cells}
-use Rattle.method.specs.Form.{header, labelsIn, valuesIn, castIn, valueRead}
-use Rattle.method.specs.Answers.{fault, filled}
-use Rattle.method.specs.Calls.{Reading, Writing, bytesOf, lineCheck, sideCheck, bodyCheck, roomCheck, contentChecks, readerChecks, reading, isRead, writing}
+use Rattle.method.specs.Reading.{header}
+use Rattle.method.specs.Form.{labelsIn, valuesIn, castIn, valueRead}
+use Rattle.method.specs.Answers.{fault}
+use Rattle.method.specs.Rooms.{filled}
+use Rattle.method.specs.Reading.{Reading, lineCheck, sideCheck, bodyCheck, roomCheck, contentChecks, readerChecks, reading, isRead}
+use Rattle.method.specs.Writing.{Writing, bytesOf, writing}
 use Rattle.theory.specs.Sessions.{Read0, Written0, again}
 use Rattle.theory.proofs.Verdicts.{all-pass, pass-all}
 use Rattle.theory.proofs.RoundTrip.{read-0, written-0, written-in-front, written-then-read, read-rewritten}
@@ -102,7 +106,8 @@ module _ {bs : List ℕ} {lent : List ℤ} {r : Session} {stored : List ℤ} (z 
       ∙ ap₂ (λ x y. offered (header bs .sides) x y (labelsIn (header bs)) (take (cells (r .sides)) stored) output) order-is settings-are
       ∙ ap (λ y. offered (header bs .sides) (header bs .order) (header bs .settings) (labelsIn (header bs)) y output) values-are
 
-  -- what was accepted, given to `write` in its order with an output that is long enough. That it is bytes is in the promise of `read`
+  -- what was accepted, given to `write` in its order with an output that is long enough. That it is bytes is in the
+  -- promise of `read`
   pub read-then-written-code : {found output left : List ℕ} {w : Written} (room : ℕ) → cells (r .sides) ≤ room → found ≡ reading (asked bs room) .labels
       → WriteOf (r .sides) (r .order) (r .settings) found (take (cells (r .sides)) stored) output w left → length bs ≤ length output
       → SameBytes bs output w left

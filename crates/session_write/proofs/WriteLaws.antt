@@ -16,8 +16,9 @@ use Rattle.method.specs.declared.Order.{Order}
 use Rattle.method.specs.declared.Settings.{Settings}
 use Rattle.method.specs.Cast.{cells, sidesFit, settingsFit}
 use Rattle.method.specs.Form.{headerWritten, written}
-use Rattle.method.specs.Answers.{fault, passed, refused, verdict, refusal, done, filled}
-use Rattle.method.specs.Calls.{Writing, bytesOf, writerLengthsFit, writerChecks, writing}
+use Rattle.method.specs.Answers.{fault, passed, refused, verdict, refusal, done}
+use Rattle.method.specs.Rooms.{filled}
+use Rattle.method.specs.Writing.{Writing, bytesOf, writerLengthsFit, writerChecks, writing}
 use Rattle.checks.specs.Faults.{cellRuling}
 use Rattle.puts.specs.Puts.{Put}
 use Rattle.writes.specs.Lengths.{HeaderLength}
@@ -26,8 +27,8 @@ use Rattle.checks.specs.declared.Ruling.{Ruling}
 use Rattle.checks.specs.declared.Ruling.the-variants.{Refused, Allowed}
 use Rattle.theory.specs.Sides.{Fit}
 use Rattle.theory.proofs.Sides.{fit}
-use Rattle.checks.proofs.RuleLaws.{verdict-agree, ruling-none, ruling-more, last-ruling, first-assoc, both-allowed, ruled-none, fault-no, fault-yes}
-use Rattle.theory.proofs.Verdicts.{no-fault}
+use Rattle.theory.proofs.Verdicts.{verdict-agree, fault-no, fault-yes, no-fault}
+use Rattle.checks.proofs.RuleLaws.{ruling-none, ruling-more, last-ruling, first-assoc, both-allowed, ruled-none}
 use Rattle.checks.proofs.CheckLaws.{cells-ruled}
 use Rattle.checks.specs.Rulings.{rulingOf, rulingBy, firstOf}
 use Rattle.writes.proofs.LengthLaws.{written-length}

@@ -11,7 +11,7 @@ use Rattle.method.specs.declared.Settings.{Settings}
 use Rattle.method.specs.Cast.{cells, sidesFit, settingsFit}
 use Rattle.method.specs.Form.{written}
 use Rattle.method.specs.Answers.{fault, verdict}
-use Rattle.method.specs.Calls.{Writing, writerLengthsFit, writerChecks, writing}
+use Rattle.method.specs.Writing.{Writing, writerLengthsFit, writerChecks, writing}
 use Rattle.checks.specs.Faults.{cellRuling}
 use Rattle.checks.specs.Rulings.{rulingOf, rulingBy, firstOf}
 use Rattle.session_write.specs.declared.Written.{Written}

@@ -4,7 +4,7 @@ ghost use Prim.Native.Nat.{_+_, _*_, _≤_};
 ghost use lib.Dec.{leb};
 ghost use lib.ListN.{length, replicate};
 ghost use Rattle.method.specs.Form.{headerWritten};
-ghost use Rattle.method.specs.Calls.{writerLengthsFit};
+ghost use Rattle.method.specs.Writing.{writerLengthsFit};
 ghost use Rattle.theory.specs.Sides.{Fit};
 ghost use Rattle.session_write.specs.Writes.{RuledOf, limitRuling, offered, sliceRuling};
 use checks::Ruling;

@@ -16,9 +16,10 @@ use mir.Val.{Fits, SFits, toZ, ofZ}
 use mir.Facts.{toZ-ofZ}
 use Rattle.laws.specs.Text.{text}
 use Rattle.method.specs.declared.Answer.{Answer}
-use Rattle.method.specs.Form.{decimal, line}
+use Rattle.method.specs.Numbers.{decimal}
+use Rattle.method.specs.Form.{line}
 use Rattle.method.specs.Program.{whole, answerLines, print}
-use Rattle.words.proofs.WordLaws.{same, below, above, turned-fits, turned-read}
+use Rattle.whole.proofs.Signs.{same, below, above}
 use Rattle.puts.specs.Puts.{Put}
 use Rattle.puts.proofs.PutLaws.{put-length, put-then}
 use Rattle.puts.proofs.DecimalLaws.{most-digits}
@@ -26,26 +27,6 @@ use Rattle.writes.specs.Lengths.{threeLines}
 use Rattle.writes.proofs.PartLaws.{flat-append, flat-one}
 use Rattle.writes.proofs.LengthLaws.{line-length, three-length}
 use Rattle.show.specs.Shows.{cellLine, worstLines, castLines, answerRoom, printRoom, PutShort}
-
--- ---- the size of a pressure
-module _ (p : ℤ) (f : SFits w64 p) where
-  module _ (e : ltZ (toZ w64 (ofZ w64 p)) (pos 0) ≡ true) where
-    pub turned-cast : T (nonNeg (toZ w64 (ofZ w64 (negsuc 0 -ℤ toZ w64 (ofZ w64 p))))) × Fits w64 (natAbs (toZ w64 (ofZ w64 (negsuc 0 -ℤ toZ w64 (ofZ w64 p)))))
-    turned-cast = rw (turned-read p f e) (tt, record { fits = omega (arith, f .sfits) })
-
-    pub turned-more : Fits w64 (natAbs (toZ w64 (ofZ w64 (negsuc 0 -ℤ toZ w64 (ofZ w64 p)))) + 1)
-    turned-more = rw (turned-read p f e) (record { fits = omega (arith, f .sfits) })
-
-    pub size-below : natAbs (toZ w64 (ofZ w64 (negsuc 0 -ℤ toZ w64 (ofZ w64 p)))) + 1 ≡ natAbs p
-    size-below = rw (turned-read p f e) (omega arith ∙ sym (ap natAbs (below p f e)))
-
-  pub plain-cast : ltZ (toZ w64 (ofZ w64 p)) (pos 0) ≡ false → T (nonNeg (toZ w64 (ofZ w64 p))) × Fits w64 (natAbs (toZ w64 (ofZ w64 p)))
-  plain-cast e = rw (same p f, above p f e) (tt, record { fits = omega (arith, f .sfits) })
-
-  pub size-above : natAbs (toZ w64 (ofZ w64 p)) ≡ natAbs p
-  size-above = ap natAbs (same p f)
-
-pub ruleset sizes = (needs, turned-fits, turned-more, size-below, size-above)
 
 -- ---- a line of a key and a whole number
 size-most : (p : ℤ) → mag p < 2 ^ 63 → natAbs p ≤ 2 ^ 63

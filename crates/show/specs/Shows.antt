@@ -4,7 +4,8 @@ use mathlib.Core.List.{List, _++_}
 use lib.IntN.{ℤ}
 use Rattle.laws.specs.Text.{text}
 use Rattle.method.specs.declared.Answer.{Answer}
-use Rattle.method.specs.Form.{decimal, line}
+use Rattle.method.specs.Numbers.{decimal}
+use Rattle.method.specs.Form.{line}
 use Rattle.method.specs.Program.{whole}
 use Rattle.puts.specs.Puts.{Put}
 

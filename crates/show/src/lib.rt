@@ -1,8 +1,8 @@
-// The print of an answer (document 01, "The program", and document 02, wish 5): eight lines, and on 0 a line for each pressure.
+// The print of an answer (document 01, "The program", and document 02, wish 5): eight lines, and on 0 a line for each
+// pressure.
 ghost use mathlib.Core.Path.{_≡_};
 ghost use mathlib.Core.List.{flatMap};
 ghost use Prim.Native.Nat.{_+_, _*_, _≤_};
-ghost use lib.IntN.{natAbs};
 ghost use lib.ListN.{length};
 ghost use Rattle.method.specs.Form.{line};
 ghost use Rattle.method.specs.Program.{whole, answerLines, print};
@@ -13,19 +13,12 @@ use puts::put_line;
 use whole::wide;
 use writes::put_three;
 
-// The size of any i64, of the least too.
-pub fn size(p: i64) -> u64
-    ensures { λ r. ⌜ r ≡ natAbs p ⌝ }
-{
-    if p < 0 { (-1 - p) as u64 + 1 } else { p as u64 }
-}
-
 // Puts a line of a key and a whole number: a minus where it is negative, and its size.
 fn put_whole(output: &mut [u8], at: usize, key: &[u8], p: i64) -> usize
     requires { ⌜ at + (length (now key) + 21) ≤ length (now output) ⌝ }
     ensures { λ r. ⌜ PutShort (length (now (key .entry)) + 21) (line (now (key .entry)) (whole p)) (now (output .entry)) at (now (output .exit)) r ⌝ }
 {
-    let n = size(p);
+    let n = whole::size(p);
     if p < 0 {
         let sign = put_bytes(output, at, key);
         return put_line(output, sign, b"-", n);

@@ -1,4 +1,5 @@
--- What each kernel leaves of a room that is laid out: for the crates that call several, one after the other. Assumes nothing.
+-- What each kernel leaves of a room that is laid out: for the crates that call several, one after the other. Assumes
+-- nothing.
 use Prim.Native.Nat.{ℕ, _*_}
 use mathlib.Core.Path.{_≡_, _∙_}
 use mathlib.Core.List.{List, _++_}
@@ -9,7 +10,7 @@ use Rattle.laws.proofs.Lists.{length-tab}
 use Rattle.laws.proofs.Fills.{up-keeps, down-keeps}
 use Rattle.method.specs.declared.Sides.{Sides}
 use Rattle.method.specs.Cast.{cells, isAir}
-use Rattle.method.specs.Levels.{inAir}
+use Rattle.method.specs.Transfers.{inAir}
 use Rattle.method.specs.Cycle.{relaxed, rest, jacobi, residue, zeros}
 use Rattle.smooth.specs.Fields.{u-of, b-of, Laid}
 use Rattle.smooth.specs.Sweeps.{relaxedAt, sweptUp, sweptDown}
@@ -42,7 +43,8 @@ module _ (g : Sides) (ls cs : List ℕ) (b u : List Float) where
   unfolding sweptDown
   sweptDown-length = down-keeps (relaxedAt g ls cs b) (λ k v. relaxed-length g ls (isAir ls) b (getD cs k 0) v) (length cs) u
 
--- ---- after each kernel. A caller of several states a law over plain variables, which applies these one in another, and cites it.
+-- ---- after each kernel. A caller of several states a law over plain variables, which applies these one in another,
+-- and cites it.
 module _ (g : Sides) {u b t r s x : List Float} (l : Laid (cells g) u b t r s) where
   -- a kernel that gives u anew, from u and b
   front : (f : List Float → List Float → List Float) → length (f b u) ≡ cells g → x ≡ f (b-of (cells g) s) (u-of (cells g) s) ++ drop (cells g) s

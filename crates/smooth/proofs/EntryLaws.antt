@@ -20,7 +20,7 @@ use Rattle.laws.proofs.Lists.{getD-any}
 use Rattle.laws.proofs.Zeros.{Plain, plain-zero, plain-sum, plus-zero}
 use Rattle.method.specs.declared.Sides.{Sides}
 use Rattle.method.specs.Cast.{Axis, axes, along, cells, isAir, labelAt, back, on, beside, around, degree}
-use Rattle.method.specs.Levels.{value}
+use Rattle.method.specs.Transfers.{value}
 use Rattle.method.specs.Cycle.{airSum, ascending, descending}
 use Rattle.theory.specs.Waves.{waves}
 use Rattle.theory.specs.Sides.{Fit, x-axis, y-axis, z-axis}

@@ -13,7 +13,7 @@ use Rattle.laws.proofs.Loops.{ups}
 use Rattle.laws.proofs.Fills.{tab-take, filled, filled-front}
 use Rattle.method.specs.declared.Sides.{Sides}
 use Rattle.method.specs.Cast.{cells}
-use Rattle.method.specs.Levels.{value}
+use Rattle.method.specs.Transfers.{value}
 use Rattle.method.specs.Cycle.{jacobi, zeros}
 use Rattle.smooth.specs.Fields.{u-of, b-of, t-of, Laid, keepTurn, clearTurn, clearFromTurn}
 

@@ -1,4 +1,5 @@
--- The kernels over entries, at one cell and over a list that covers the air: Jacobi, Jacobi from zero, the residual. Assumes nothing.
+-- The kernels over entries, at one cell and over a list that covers the air: Jacobi, Jacobi from zero, the residual.
+-- Assumes nothing.
 use Prim.Native.Nat.{ℕ, _+_, _-_, _*_, _/_, _%_, _^_, _≤_, _<_}
 use mathlib.Core.Path.{_≡_, sym, ap, ap₂, _∙_}
 use mathlib.Core.List.{List, _++_}
@@ -15,7 +16,7 @@ use Rattle.laws.proofs.Lists.{length-tab, getD-tab}
 use Rattle.laws.proofs.Zeros.{over-none, jacobi-from-zero}
 use Rattle.method.specs.declared.Sides.{Sides}
 use Rattle.method.specs.Cast.{cells, isAir, degree, around}
-use Rattle.method.specs.Levels.{value}
+use Rattle.method.specs.Transfers.{value}
 use Rattle.method.specs.Cycle.{airSum, applied, rest, change, jacobi, residue, zeros}
 use Rattle.theory.specs.Quiet.{Quiet}
 use Rattle.grid.specs.Entries.{cellsOf}

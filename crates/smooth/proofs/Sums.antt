@@ -12,7 +12,7 @@ use Rattle.laws.specs.Binary64.{_⊕_, +0}
 use Rattle.laws.specs.Lists.{over}
 use Rattle.method.specs.declared.Sides.{Sides}
 use Rattle.method.specs.Cast.{labelAt, isAir, around}
-use Rattle.method.specs.Levels.{value}
+use Rattle.method.specs.Transfers.{value}
 use Rattle.method.specs.Cycle.{airSum}
 
 -- ---- a label that is air stands in the list

@@ -1,4 +1,5 @@
--- Sweeps of the room are sweeps of the fields in it, and over the list of the cells that pass a test they are the meaning's. Assumes nothing.
+-- Sweeps of the room are sweeps of the fields in it, and over the list of the cells that pass a test they are the
+-- meaning's. Assumes nothing.
 use Prim.Native.Nat.{ℕ, zero, suc, _*_, _≤_, _<_}
 use mathlib.Core.Path.{_≡_, refl, sym, ap, _∙_}
 use mathlib.Core.Bool.{Bool, true, false, cond}
@@ -14,7 +15,7 @@ use Rattle.laws.proofs.Fill.{up-same}
 use Rattle.laws.proofs.Fills.{down-within, up-front, down-front}
 use Rattle.method.specs.declared.Sides.{Sides}
 use Rattle.method.specs.Cast.{cells, isAir}
-use Rattle.method.specs.Levels.{value}
+use Rattle.method.specs.Transfers.{value}
 use Rattle.method.specs.Cycle.{change, relaxed, ascending, descending}
 use Rattle.theory.specs.Waves.{waves}
 use Rattle.theory.proofs.Waves.{wave-up, wave-down}

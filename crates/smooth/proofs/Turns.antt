@@ -10,7 +10,7 @@ use lib.Ieee.{Float, nan, binary64, ofBits, div}
 use Rattle.laws.specs.Binary64.{_⊕_, _⊖_, _⊗_, _⊘_, ofℕ}
 use Rattle.method.specs.declared.Sides.{Sides}
 use Rattle.method.specs.Cast.{cells, degree}
-use Rattle.method.specs.Levels.{value}
+use Rattle.method.specs.Transfers.{value}
 use Rattle.method.specs.Cycle.{airSum, applied, rest, change, relaxed}
 use Rattle.grid.proofs.Steps.{air-yes}
 use Rattle.smooth.specs.Fields.{u-of, b-of, relaxTurn}

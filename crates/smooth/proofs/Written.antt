@@ -1,4 +1,5 @@
--- Writing at the cells of a list that covers the air exactly, in a field that is +0 off air, makes the field anew, in air. Assumes nothing.
+-- Writing at the cells of a list that covers the air exactly, in a field that is +0 off air, makes the field anew, in
+-- air. Assumes nothing.
 use Prim.Native.Nat.{ℕ, zero, suc, _+_, _≤_, _<_}
 use mathlib.Core.Path.{_≡_, refl, sym, ap, ap₂, _∙_}
 use mathlib.Core.Logic.{⊎-elim}
@@ -17,7 +18,7 @@ use Rattle.laws.proofs.Fill.{tab-same}
 use Rattle.laws.proofs.Fills.{up-keeps, tab-take}
 use Rattle.method.specs.declared.Sides.{Sides}
 use Rattle.method.specs.Cast.{cells, isAir}
-use Rattle.method.specs.Levels.{value, inAir}
+use Rattle.method.specs.Transfers.{value, inAir}
 use Rattle.smooth.specs.Written.{written, Covers}
 
 -- ---- over plain lists: no store changes what f reads

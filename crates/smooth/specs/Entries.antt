@@ -9,7 +9,7 @@ use lib.Ieee.{Float}
 use Rattle.laws.specs.Binary64.{+0}
 use Rattle.method.specs.declared.Sides.{Sides}
 use Rattle.method.specs.Cast.{cells, isAir}
-use Rattle.method.specs.Levels.{value}
+use Rattle.method.specs.Transfers.{value}
 use Rattle.theory.specs.Sides.{Fit}
 use Rattle.smooth.specs.Fields.{Level}
 use Rattle.grid.specs.Entries.{entryOf, cellsOf}

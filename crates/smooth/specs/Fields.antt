@@ -7,7 +7,7 @@ use lib.Ieee.{Float}
 use Rattle.laws.specs.Binary64.{+0}
 use Rattle.method.specs.declared.Sides.{Sides}
 use Rattle.method.specs.Cast.{cells, isAir}
-use Rattle.method.specs.Levels.{value}
+use Rattle.method.specs.Transfers.{value}
 use Rattle.method.specs.Cycle.{relaxed}
 use Rattle.theory.specs.Sides.{Fit}
 

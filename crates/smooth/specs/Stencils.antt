@@ -1,12 +1,12 @@
--- What the kernels over entries write at an air cell, from the room as it is: the new u by Jacobi from the old u in t, the new u by Jacobi from
--- u = 0, and b - A u.
+-- What the kernels over entries write at an air cell, from the room as it is: the new u by Jacobi from the old u in t,
+-- the new u by Jacobi from u = 0, and b - A u.
 use Prim.Native.Nat.{ℕ}
 use mathlib.Core.List.{List}
 use lib.Ieee.{Float}
 use Rattle.laws.specs.Binary64.{_⊕_, _⊗_, _⊘_, ofℕ}
 use Rattle.method.specs.declared.Sides.{Sides}
 use Rattle.method.specs.Cast.{cells}
-use Rattle.method.specs.Levels.{value}
+use Rattle.method.specs.Transfers.{value}
 use Rattle.method.specs.Cycle.{rest, change, zeros}
 use Rattle.smooth.specs.Fields.{u-of, b-of, t-of}
 

@@ -6,7 +6,7 @@ ghost use lib.ListN.{length, drop};
 ghost use Rattle.laws.specs.Binary64.{+0};
 ghost use Rattle.method.specs.declared.Sides.{Sides};
 ghost use Rattle.method.specs.Cast.{cells, isAir};
-ghost use Rattle.method.specs.Levels.{value};
+ghost use Rattle.method.specs.Transfers.{value};
 ghost use Rattle.method.specs.Cycle.{airSum, relaxed};
 ghost use Rattle.smooth.specs.Fields.{u-of, b-of};
 ghost use Rattle.smooth.specs.Sweeps.{sweptUp, sweptDown};
@@ -31,7 +31,8 @@ fn pick_on(e: u32, unit: u32, c: usize, step: usize, zero: usize) -> usize
     if e / unit % 2 == 1 { c + step } else { zero }
 }
 
-// The sum of the air neighbours of an entry's cell: six elements, of which those that stand for no air cell are the zero.
+// The sum of the air neighbours of an entry's cell: six elements, of which those that stand for no air cell are the
+// zero.
 pub(crate) fn gather(room: &[f64], n: usize, nx: usize, plane: usize, zero: usize, e: u32) -> f64
     requires { ⌜ Reads n nx plane e ⌝ }
     requires { ⌜ (n ≤ zero) × (zero < length (now room)) ⌝ }

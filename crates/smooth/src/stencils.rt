@@ -6,7 +6,7 @@ ghost use lib.ListN.{length, take, drop};
 ghost use Rattle.laws.specs.Binary64.{+0};
 ghost use Rattle.method.specs.declared.Sides.{Sides};
 ghost use Rattle.method.specs.Cast.{cells};
-ghost use Rattle.method.specs.Levels.{value};
+ghost use Rattle.method.specs.Transfers.{value};
 ghost use Rattle.method.specs.Cycle.{applied, jacobi, residue, zeros};
 ghost use Rattle.theory.specs.Quiet.{Quiet};
 ghost use Rattle.grid.specs.Entries.{cellsOf};

@@ -1,4 +1,5 @@
--- What the solver's promise comes to: one result; question 3 of the very answer that the code gives; document 01's hand cases by the code. Assumes nothing.
+-- What the solver's promise comes to: one result; question 3 of the very answer that the code gives; document 01's hand
+-- cases by the code. Assumes nothing.
 use Prim.Native.Nat.{ℕ, _≤_}
 use mathlib.Core.Path.{_≡_, refl, sym, ap, ap₂, _∙_}
 use mathlib.Core.List.{List, [], _∷_}
@@ -8,7 +9,7 @@ use lib.Ieee.{Float}
 use Rattle.laws.specs.Whole.{_-ᶻ_, _*ᶻ_}
 use Rattle.method.specs.declared.Answer.{Answer}
 use Rattle.method.specs.Cast.{labelAt, field}
-use Rattle.method.specs.Calls.{Asked, Solved, solving}
+use Rattle.method.specs.Solving.{Asked, Solved, solving}
 use Rattle.method.proofs.Cases.{call, half, faulty, answer, answerAt, ends, stays, sevens, case-a, case-b, case-c, case-d, case-e, case-l}
 use Rattle.theory.specs.Exact.{Solves, bound}
 use Rattle.theory.proofs.Question3.{question-3}

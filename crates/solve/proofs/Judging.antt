@@ -18,9 +18,11 @@ use Rattle.method.specs.declared.Found.{Found}
 use Rattle.method.specs.declared.Found.the-variants.{Nowhere, At}
 use Rattle.laws.specs.Loops.{up}
 use Rattle.laws.proofs.Bools.{is-true}
-use Rattle.method.specs.Cast.{cells, labelAt, isAir, judged, isAt, first, sidesFit, settingsFit, interior}
-use Rattle.method.specs.Answers.{verdict, fault, byteNeed, floatNeed, wordNeed}
-use Rattle.method.specs.Calls.{Asked, lengthsFit, checksBefore7}
+use Rattle.method.specs.Cast.{cells, labelAt, isAir, judged, first, sidesFit, settingsFit, interior}
+use Rattle.method.specs.Walks.{isAt}
+use Rattle.method.specs.Answers.{verdict, fault}
+use Rattle.method.specs.Rooms.{byteNeed, floatNeed, wordNeed}
+use Rattle.method.specs.Solving.{Asked, lengthsFit, checksBefore7}
 use Rattle.theory.specs.Sides.{Fit}
 use Rattle.theory.proofs.Sides.{fit}
 use Rattle.theory.proofs.Counting.{some-counted}
@@ -29,7 +31,8 @@ use Rattle.checks.specs.declared.Ruling.{Ruling}
 use Rattle.checks.specs.declared.Ruling.the-variants.{Refused, Allowed}
 use Rattle.checks.specs.Rulings.{rulingOf, rulingBy, firstOf}
 use Rattle.checks.specs.Faults.{cellRuling}
-use Rattle.checks.proofs.RuleLaws.{fails-at, passes-on, ruling-more, ruling-last, fault-no, fault-yes}
+use Rattle.theory.proofs.Verdicts.{fails-at, passes-on, fault-no, fault-yes}
+use Rattle.checks.proofs.RuleLaws.{ruling-more, ruling-last}
 use Rattle.checks.proofs.CheckLaws.{cells-ruled}
 use Rattle.solve.specs.Solve.{asked, lengthsBy, contentRuling}
 

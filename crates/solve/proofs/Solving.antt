@@ -1,4 +1,5 @@
--- The entry point: what is known once no check before 7 fails, and what everything lent holds at the end. Assumes nothing.
+-- The entry point: what is known once no check before 7 fails, and what everything lent holds at the end. Assumes
+-- nothing.
 use Prim.Native.Nat.{ℕ, zero, suc, _+_, _-_, _*_, _≤_, _<_}
 use mathlib.Core.Path.{_≡_, refl, sym, ap, ap₂, _∙_}
 use mathlib.Core.Bool.{Bool, true, false, not, _&&_, false≢true}
@@ -17,9 +18,11 @@ use Rattle.method.specs.declared.Sides.{Sides}
 use Rattle.method.specs.declared.Settings.{Settings}
 use Rattle.method.specs.declared.Answer.{Answer}
 use Rattle.method.specs.declared.Found.the-variants.{Nowhere}
-use Rattle.method.specs.Cast.{cells, labelAt, sealed, between, sidesFit, settingsFit}
-use Rattle.method.specs.Answers.{Verdict, passed, refused, verdict, refusal, byteNeed, floatNeed, wordNeed, cleared}
-use Rattle.method.specs.Calls.{Asked, size, Solved, lengthsFit, checksBefore7, untouched, handedBack, solving}
+use Rattle.method.specs.Cast.{cells, labelAt, between, sidesFit, settingsFit}
+use Rattle.method.specs.Walks.{sealed}
+use Rattle.method.specs.Answers.{Verdict, passed, refused, verdict, refusal}
+use Rattle.method.specs.Rooms.{byteNeed, floatNeed, wordNeed, cleared}
+use Rattle.method.specs.Solving.{Asked, size, Solved, lengthsFit, checksBefore7, untouched, handedBack, solving}
 use Rattle.theory.specs.Walks.{Walk}
 use Rattle.theory.specs.Sides.{Fit}
 use Rattle.theory.proofs.Sides.{fit}

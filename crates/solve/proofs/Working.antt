@@ -13,10 +13,13 @@ use Rattle.method.specs.declared.Settings.{Settings}
 use Rattle.method.specs.declared.Answer.{Answer}
 use Rattle.method.specs.declared.Found.{Found}
 use Rattle.method.specs.declared.Found.the-variants.{Nowhere, At}
-use Rattle.method.specs.Cast.{Cast, cells, worst, interior, depth, sealed}
-use Rattle.method.specs.Answers.{check, Verdict, passed, refused, verdict, refusal, accepted, unfinished, byteNeed, floatNeed, wordNeed}
-use Rattle.method.specs.Rounds.{solved, failed, rounded, ending}
-use Rattle.method.specs.Calls.{Asked, Solved, checksFrom7, handedBack, answerOf, pressuresOf, ended}
+use Rattle.method.specs.Cast.{Cast, cells, worst, interior}
+use Rattle.method.specs.Walks.{depth, sealed}
+use Rattle.method.specs.Answers.{check, Verdict, passed, refused, verdict, refusal, accepted, unfinished}
+use Rattle.method.specs.Rooms.{byteNeed, floatNeed, wordNeed}
+use Rattle.method.specs.Ticks.{rounded}
+use Rattle.method.specs.Rounds.{solved, failed, ending}
+use Rattle.method.specs.Solving.{Asked, Solved, checksFrom7, handedBack, answerOf, pressuresOf, ended}
 use Rattle.theory.specs.Sides.{Fit}
 use Rattle.theory.proofs.Worst.{end-worst}
 use Rattle.answers.specs.declared.Ended.{Ended}
@@ -28,7 +31,8 @@ use Rattle.worst.specs.Worst.{Sought, worstOf}
 use Rattle.walks.specs.Search.{Roomy}
 use Rattle.trial.specs.Trial as Trial
 use Rattle.bands.proofs.Calls.{words-enough}
-use Rattle.checks.proofs.RuleLaws.{fails-at, passes-on, ruling-none}
+use Rattle.theory.proofs.Verdicts.{fails-at, passes-on}
+use Rattle.checks.proofs.RuleLaws.{ruling-none}
 use Rattle.rounds.specs.declared.Plan.{Plan}
 use Rattle.rounds.specs.Rounds.{castOf, planSides, Ready, EndOf}
 use Rattle.rounds.proofs.Turns.{fit-planned}

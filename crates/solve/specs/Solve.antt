@@ -10,8 +10,9 @@ use Rattle.method.specs.declared.Sides.{Sides}
 use Rattle.method.specs.declared.Settings.{Settings}
 use Rattle.method.specs.declared.Answer.{Answer}
 use Rattle.method.specs.Cast.{settingsFit, interior}
-use Rattle.method.specs.Answers.{fault, byteNeed, floatNeed, wordNeed}
-use Rattle.method.specs.Calls.{Asked, solving}
+use Rattle.method.specs.Answers.{fault}
+use Rattle.method.specs.Rooms.{byteNeed, floatNeed, wordNeed}
+use Rattle.method.specs.Solving.{Asked, solving}
 use Rattle.checks.specs.declared.Ruling.{Ruling}
 use Rattle.checks.specs.Rulings.{rulingBy, firstOf}
 use Rattle.checks.specs.Faults.{cellRuling}

@@ -8,10 +8,12 @@ use Rattle.method.specs.declared.Sides.{Sides}
 use Rattle.method.specs.declared.Settings.{Settings}
 use Rattle.method.specs.declared.Answer.{Answer}
 use Rattle.method.specs.declared.Found.the-variants.{Nowhere}
-use Rattle.method.specs.Cast.{Cast, cells, labelAt, interior, depth, sealed}
-use Rattle.method.specs.Answers.{Verdict, passed, refused, verdict, refusal, byteNeed, floatNeed, wordNeed}
+use Rattle.method.specs.Cast.{Cast, cells, labelAt, interior}
+use Rattle.method.specs.Walks.{depth, sealed}
+use Rattle.method.specs.Answers.{Verdict, passed, refused, verdict, refusal}
+use Rattle.method.specs.Rooms.{byteNeed, floatNeed, wordNeed}
 use Rattle.method.specs.Rounds.{ending}
-use Rattle.method.specs.Calls.{Asked, Solved, checksFrom7, handedBack, answerOf, pressuresOf, ended}
+use Rattle.method.specs.Solving.{Asked, Solved, checksFrom7, handedBack, answerOf, pressuresOf, ended}
 use Rattle.theory.specs.Walks.{Walk}
 use Rattle.theory.specs.Levels.{airBefore}
 use Rattle.theory.specs.Sides.{Fit}

@@ -2,9 +2,10 @@
 ghost use mathlib.Core.Path.{_≡_};
 ghost use Prim.Native.Nat.{_≤_};
 ghost use lib.ListN.{length};
-ghost use Rattle.method.specs.Cast.{cells, isAir, isAt, first};
+ghost use Rattle.method.specs.Cast.{cells, isAir, first};
+ghost use Rattle.method.specs.Walks.{isAt};
 ghost use Rattle.method.specs.Answers.{verdict};
-ghost use Rattle.method.specs.Calls.{checksBefore7};
+ghost use Rattle.method.specs.Solving.{checksBefore7};
 ghost use Rattle.theory.specs.Sides.{Fit};
 ghost use Rattle.checks.specs.Rulings.{rulingOf};
 ghost use Rattle.solve.specs.Solve.{asked, lengthsBy, contentRuling};

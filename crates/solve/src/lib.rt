@@ -1,4 +1,5 @@
-// The solver's entry point (document 01, "What comes back"): refusals in their order, then three parts: prepare, run, clear.
+// The solver's entry point (document 01, "What comes back"): refusals in their order, then three parts: prepare, run,
+// clear.
 mod judge;
 pub mod prepare;
 
@@ -90,7 +91,8 @@ fn work(
     }
 }
 
-// Solves a cast. Nothing lent is changed by a refusal before 7; past it the needed part of each room is handed back as zeros.
+// Solves a cast. Nothing lent is changed by a refusal before 7; past it the needed part of each room is handed back as
+// zeros.
 pub fn solve(
     sides: Sides,
     labels: &[u8],

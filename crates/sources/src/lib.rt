@@ -1,4 +1,5 @@
-// The right side b: at a cell its source and the levels of the openings across its faces, summed as whole numbers and converted once.
+// The right side b: at a cell its source and the levels of the openings across its faces, summed as whole numbers and
+// converted once.
 ghost use mathlib.Core.Path.{_≡_};
 ghost use Prim.Native.Nat.{_≤_, _<_, _^_};
 ghost use lib.IntN.{natAbs};

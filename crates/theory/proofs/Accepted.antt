@@ -13,10 +13,13 @@ use borrow.Author.Tests.{eq-eqb}
 use Rattle.laws.proofs.Bools.{and-l, and-r, and-in, so, so-not, is-true, split}
 use Rattle.method.specs.declared.Found.{Found}
 use Rattle.method.specs.declared.Found.the-variants.{Nowhere, At}
-use Rattle.method.specs.Cast.{cells, labelAt, isAir, judged, field, residual, worst, interior, depth, isAt, stepsOf, walk, sealed, sidesFit}
-use Rattle.method.specs.Answers.{accepted, refusal, unfinished, byteNeed, floatNeed, wordNeed}
-use Rattle.method.specs.Rounds.{State, rounded, passes, pass, fail}
-use Rattle.method.specs.Calls.{Asked, size, Solved, lengthsFit, checksBefore7, untouched, handedBack, answerOf, solving}
+use Rattle.method.specs.Cast.{cells, labelAt, isAir, judged, field, residual, worst, interior, sidesFit}
+use Rattle.method.specs.Walks.{depth, isAt, stepsOf, walk, sealed}
+use Rattle.method.specs.Answers.{accepted, refusal, unfinished}
+use Rattle.method.specs.Rooms.{byteNeed, floatNeed, wordNeed}
+use Rattle.method.specs.Ticks.{rounded, passes}
+use Rattle.method.specs.Rounds.{State, pass, fail}
+use Rattle.method.specs.Solving.{Asked, size, Solved, lengthsFit, checksBefore7, untouched, handedBack, answerOf, solving}
 use Rattle.theory.specs.Walks.{Walk}
 use Rattle.theory.specs.Answered.{label, left, Away, Accepted, CutOff}
 use Rattle.theory.proofs.Verdicts.{AllPass, no-fault, no-fault′}

@@ -1,4 +1,5 @@
--- The children of a coarse cell, by their coordinates, and what a coarse cell's label says of them; the band is air. Assumes nothing.
+-- The children of a coarse cell, by their coordinates, and what a coarse cell's label says of them; the band is air.
+-- Assumes nothing.
 use mathlib.Core.Path.{_≡_, refl, sym, ap, ap₂, _∙_}
 use mathlib.Core.Logic.{_⊎_, inl, inr}
 use mathlib.Core.Bool.{Bool, true, false, cond, _&&_}
@@ -11,7 +12,9 @@ use borrow.Author.Tests.{ltb-true, leb-true, lt-ltb, le-leb}
 use Rattle.laws.specs.Lists.{tab, any}
 use Rattle.method.specs.declared.Sides.{Sides}
 use Rattle.method.specs.Cast.{Axis, axes, along, cells, isAir, isOpening, labelAt}
-use Rattle.method.specs.Levels.{halved, halvings, Drawn, placed, joined, choice, choices, children, coarseLabel, coarse, givenTo, hasOther, inBand}
+use Rattle.method.specs.Levels.{halved, halvings, Drawn, placed, joined, choice, choices, children, coarseLabel, coarse}
+use Rattle.method.specs.Transfers.{givenTo}
+use Rattle.method.specs.Cycle.{hasOther, inBand}
 use Rattle.laws.proofs.Bools.{is-true, and-l, so}
 use Rattle.laws.proofs.Lists.{getD-tab, some-of, some-in}
 use Rattle.theory.specs.Sides.{x-axis, y-axis, z-axis}

@@ -1,4 +1,5 @@
--- Decimal numbers: a number written and read is the number, and digits read and written are the digits. Assumes nothing.
+-- Decimal numbers: a number written and read is the number, and digits read and written are the digits. Assumes
+-- nothing.
 use mathlib.Core.Path.{_≡_, refl, sym, ap, ap₂, subst, _∙_}
 use mathlib.Core.Logic.{_⊎_, inl, inr, ⊎-elim}
 use mathlib.Core.Bool.{Bool, true, false, not, _&&_, _||_}
@@ -10,7 +11,7 @@ use lib.Dec.{leb, eqb, leb→le, eqb→eq, T-not}
 use lib.ListN.{length, getD, take, length-append}
 use borrow.Author.Tests.{le-leb, eq-eqb, ne-eqb}
 use Rattle.method.specs.Cast.{between}
-use Rattle.method.specs.Form.{lastDigit, spelled, decimal, isDigit, digits, isNumber, valueOf}
+use Rattle.method.specs.Numbers.{lastDigit, spelled, decimal, isDigit, digits, isNumber, valueOf}
 use Rattle.laws.proofs.Naturals.{le-or-lt}
 use Rattle.laws.proofs.Bools.{and-l, and-r, or-cases, so}
 

@@ -5,7 +5,8 @@ use Prim.Native.Nat.{ℕ, zero, suc, _-_, _<_, _≤_}
 use native.Mathlib.Omega.{arith}
 use Rattle.method.specs.declared.Settings.{Settings}
 use Rattle.method.specs.Cast.{Cast}
-use Rattle.method.specs.Rounds.{State, Turn, stalled, turned, round, passes, End, pass, fail, run, start, ending}
+use Rattle.method.specs.Ticks.{passes}
+use Rattle.method.specs.Rounds.{State, Turn, stalled, turned, round, End, pass, fail, run, start, ending}
 
 pub data Ended (k : Cast) (t : Settings) (e : End) : Type 0 where
   passing : (st : State) → e ≡ pass k t st → passes k t (st .x) ≡ true → Ended k t e

@@ -1,4 +1,5 @@
--- The greatest number, and the number of cells, among the cells that pass a test, as the meaning's loops find them. Assumes nothing.
+-- The greatest number, and the number of cells, among the cells that pass a test, as the meaning's loops find them.
+-- Assumes nothing.
 use mathlib.Core.Path.{_≡_, refl, sym, ap, _∙_}
 use mathlib.Core.Logic.{_⊎_, inl, inr, ⊎-elim}
 use mathlib.Core.Bool.{Bool, true, false, not, cond}

@@ -8,7 +8,7 @@ use lib.IntN.{ℤ, pos, natAbs}
 use Rattle.laws.specs.Whole.{_-ᶻ_, _*ᶻ_}
 use Rattle.laws.specs.Binary64.{+0}
 use Rattle.method.specs.Cast.{labelAt, field, residual}
-use Rattle.method.specs.Calls.{Asked, solving}
+use Rattle.method.specs.Solving.{Asked, solving}
 use Rattle.method.specs.Computing.{computing}
 use Rattle.theory.specs.Exact.{Solves, bound, Bounds}
 

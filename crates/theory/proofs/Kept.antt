@@ -1,4 +1,5 @@
--- What holds of a cast holds of every level of it: a label for each cell, a walk to an opening from each air cell, an opening. Assumes nothing.
+-- What holds of a cast holds of every level of it: a label for each cell, a walk to an opening from each air cell, an
+-- opening. Assumes nothing.
 use mathlib.Core.Path.{_≡_, refl, sym, ap}
 use mathlib.Core.Logic.{_⊎_, inl, inr, ⊎-elim}
 use mathlib.Core.Bool.{true}

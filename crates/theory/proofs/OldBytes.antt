@@ -1,4 +1,5 @@
--- Values of two bytes, a unit to each: written and read, read and written; and rows of values of any width. Assumes nothing.
+-- Values of two bytes, a unit to each: written and read, read and written; and rows of values of any width. Assumes
+-- nothing.
 use mathlib.Core.Path.{_≡_, refl, sym, ap, ap₂, subst, _∙_}
 use mathlib.Core.Logic.{⊎-elim}
 use mathlib.Core.Bool.{Bool, true, _&&_, cond}

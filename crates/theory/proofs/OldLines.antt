@@ -7,7 +7,8 @@ use Rattle.laws.specs.Text.{text}
 use Rattle.method.specs.declared.Sides.{Sides}
 use Rattle.method.specs.declared.Found.the-variants.{Nowhere}
 use Rattle.method.specs.Cast.{between}
-use Rattle.method.specs.Form.{decimal, isDigit, line, Lines, wrong, right, readLines}
+use Rattle.method.specs.Numbers.{decimal, isDigit}
+use Rattle.method.specs.Form.{line, Lines, wrong, right, readLines}
 use Rattle.method.specs.OldForm.{numberTo, oldParts, OldHeader, oldHeaderOf, oldHeader, oldWrongLine, oldBadLine, sizeWord, oldHeaderWritten}
 use Rattle.theory.proofs.Lines.{Form, spelt, readers, read-spelt, Told, told, number-to, to-number}
 use Rattle.theory.proofs.Reach.{never}

@@ -1,4 +1,5 @@
--- An old session written is read as what it was, with its unit, and bytes that are accepted are the one spelling of what was read. Assumes nothing.
+-- An old session written is read as what it was, with its unit, and bytes that are accepted are the one spelling of
+-- what was read. Assumes nothing.
 use mathlib.Core.Path.{_≡_, refl, sym, ap, ap₂, subst, _∙_}
 use mathlib.Core.Bool.{Bool, true, false, not, _&&_}
 use mathlib.Core.List.{List, [], _∷_, _++_, append-assoc, flatMap}
@@ -13,16 +14,17 @@ use Rattle.method.specs.declared.Sides.{Sides}
 use Rattle.method.specs.declared.Settings.{Settings}
 use Rattle.method.specs.declared.Found.{Found}
 use Rattle.method.specs.declared.Found.the-variants.{Nowhere}
-use Rattle.method.specs.Cast.{Cast, cells, between, sidesFit, settingsFit, field, first}
+use Rattle.method.specs.Cast.{Cast, cells, between, sidesFit, settingsFit, field, first, labelFault, valueFault}
 use Rattle.method.specs.Form.{mostFirst}
-use Rattle.method.specs.Answers.{fault, Verdict, passed, refused, verdict, refusal, done, filled}
-use Rattle.method.specs.Calls.{Written, labelFault, valueFault}
+use Rattle.method.specs.Answers.{fault, Verdict, passed, refused, verdict, refusal, done}
+use Rattle.method.specs.Rooms.{filled}
+use Rattle.method.specs.Writing.{Written}
 use Rattle.method.specs.OldForm.{OldHeader, oldHeader, oldBadLine, oldValueRead, oldValueWritten, shortSigned, oldLabelsIn, oldValuesIn, oldCastIn, oldHeaderWritten, oldWritten, unitFits, OldReading, OldRead, oldNamed, oldLineCheck, oldSideCheck, oldBodyCheck, oldRoomCheck, oldContentChecks, oldReaderChecks, oldReading, oldIsRead, oldNotRead, OldWriting, oldBytesOf, oldLengthsFit, expressible, notExpressible, oldWriterChecks, oldWriting}
 use Rattle.laws.proofs.Lists.{length-tab, getD-tab}
 use Rattle.laws.proofs.Bools.{and-l, and-r, so}
 use Rattle.theory.specs.Sessions.{Bytes, WrittenBack}
 use Rattle.theory.specs.OldSessions.{OldRead0, OldWritten0, OldReadBack, oldToRead, oldAgain}
-use Rattle.theory.proofs.Verdicts.{AllPass, Judged, fine, faulty, judge, no-fault, all-pass, pass-all, no-fault-in}
+use Rattle.theory.proofs.Verdicts.{AllPass, Judged, fine, faulty, judge, no-fault, all-pass, pass-all, fault-no}
 use Rattle.theory.proofs.Sides.{fit, from, to}
 use Rattle.theory.proofs.Reach.{never}
 use Rattle.theory.proofs.Firsts.{Search, found, none, search-first}
@@ -204,14 +206,14 @@ module _ (k : Cast) (u : ℕ) (z : Fine k u) where
   accepted t vs f l = (
     line-is,
     (
-      ap (λ h. fault (not (sidesFit (h .sides)))) header-is ∙ no-fault-in (sidesFit (k .sides)) (z .sides),
+      ap (λ h. fault (not (sidesFit (h .sides)))) header-is ∙ fault-no (sidesFit (k .sides)) (z .sides),
       (
         ap (λ h. fault (not (eqb (length (h .body)) (3 * cells (h .sides))))) header-is
-            ∙ no-fault-in (eqb (length body) (3 * cells (k .sides))) (eq-eqb (length body) (3 * cells (k .sides)) length-body),
+            ∙ fault-no (eqb (length body) (3 * cells (k .sides))) (eq-eqb (length body) (3 * cells (k .sides)) length-body),
         (
           ap (λ h. fault (ltb (length vs) (cells (h .sides)))) header-is ∙ ap fault (le-ltb (length vs) (cells (k .sides)) l),
           (
-            ap (λ h. fault (not (unitFits (h .unit) && settingsFit t))) header-is ∙ no-fault-in (unitFits u && settingsFit t) (ap₂ _&&_ (z .unit) f),
+            ap (λ h. fault (not (unitFits (h .unit) && settingsFit t))) header-is ∙ fault-no (unitFits u && settingsFit t) (ap₂ _&&_ (z .unit) f),
             (
               ap (λ h. labelFault (oldCastIn h)) header-is ∙ ap labelFault cast-is ∙ z .label-fault,
               (
@@ -327,8 +329,8 @@ old-read-accepted r lent b v l =
     ap₂ _&&_ (eq-eqb (length (oldLabelsIn h)) n (length-labels h (z .long)))
     (ap₂ _&&_ (eq-eqb (length (oldValuesIn h)) n (length-values h)) (le-leb (length (oldBytesOf (oldAgain r lent))) (length lent) m)) in
     pass-all oldWriterChecks (oldAgain r lent) (
-      no-fault-in (sidesFit (h .sides)) (z .sides),
-      (no-fault-in (unitFits (h .unit)) (z .unit), (no-fault-in (oldLengthsFit (oldAgain r lent)) sized, (z .label-fault, (z .value-fault, (all-expressible h (z .long) u bytes, tt))))),
+      fault-no (sidesFit (h .sides)) (z .sides),
+      (fault-no (unitFits (h .unit)) (z .unit), (fault-no (oldLengthsFit (oldAgain r lent)) sized, (z .label-fault, (z .value-fault, (all-expressible h (z .long) u bytes, tt))))),
     )
 
 pub old-read-rewritten : (r : OldReading) (lent : List ℕ) → Bytes (r .bytes) → OldRead0 r → length (r .bytes) ≤ length lent

@@ -1,4 +1,5 @@
--- The bound on a cast: over any set of its air cells that is closed under air neighbours, and over all of its air. Assumes nothing.
+-- The bound on a cast: over any set of its air cells that is closed under air neighbours, and over all of its air.
+-- Assumes nothing.
 use mathlib.Core.Path.{_≡_, refl, sym, ap, _∙_}
 use mathlib.Core.Logic.{⊎-elim}
 use mathlib.Core.Bool.{Bool, true, false, not}

@@ -1,5 +1,5 @@
--- Two orders of the same steps come to the same if each two steps that stand one way round in the one and the other way round in the
--- other commute. Assumes nothing.
+-- Two orders of the same steps come to the same if each two steps that stand one way round in the one and the other way
+-- round in the other commute. Assumes nothing.
 use Prim.Native.Nat.{ℕ, zero, suc, _+_, _<_, _≤_}
 use mathlib.Core.Path.{_≡_, refl, sym, ap, subst, _∙_}
 use mathlib.Core.List.{List, [], _∷_, _++_}
@@ -121,7 +121,8 @@ module _ {A : Type 0} (f : ℕ → A → A) where
   against-past x [] c s = refl
   against-past x (y ∷ p) c s = c y (hits-first y p) (against p s) ∙ ap (f y) (against-past x p (λ z h. c z (omega arith)) s)
 
-  -- THE LAW: lists of the same numbers, each sorted by a key of its own; what the keys do not put the same way round commutes
+  -- THE LAW: lists of the same numbers, each sorted by a key of its own; what the keys do not put the same way round
+  -- commutes
   module _ (key key′ : ℕ → ℕ) where
     pub record Orders (l m : List ℕ) : Type 0 where
       pub sorted : Sorted key l

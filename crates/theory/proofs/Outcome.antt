@@ -5,10 +5,11 @@ use mathlib.Core.Bool.{true}
 use native.Mathlib.Omega.{arith}
 use Rattle.method.specs.declared.Found.{Found}
 use Rattle.method.specs.declared.Found.the-variants.{Nowhere, At}
-use Rattle.method.specs.Cast.{sealed}
+use Rattle.method.specs.Walks.{sealed}
 use Rattle.method.specs.Answers.{refusal, Verdict, passed, refused, verdict}
-use Rattle.method.specs.Rounds.{State, rounded, passes, pass, fail, ending}
-use Rattle.method.specs.Calls.{Asked, Solved, checksBefore7, checksFrom7, untouched, handedBack, answerOf, pressuresOf, ended, solving}
+use Rattle.method.specs.Ticks.{rounded, passes}
+use Rattle.method.specs.Rounds.{State, pass, fail, ending}
+use Rattle.method.specs.Solving.{Asked, Solved, checksBefore7, checksFrom7, untouched, handedBack, answerOf, pressuresOf, ended, solving}
 use Rattle.theory.proofs.Verdicts.{AllPass, Judged, fine, faulty, judge}
 use Rattle.theory.proofs.Ends.{Ended, passing, failing, ending-is}
 

@@ -1,4 +1,5 @@
--- The pressures that pass the test: the levels at openings, 0 at walls, whole ticks within ±2^41 in air. Assumes nothing.
+-- The pressures that pass the test: the levels at openings, 0 at walls, whole ticks within ±2^41 in air. Assumes
+-- nothing.
 use mathlib.Core.Path.{_≡_, refl, sym, ap, _∙_}
 use mathlib.Core.Logic.{⊎-elim}
 use mathlib.Core.Bool.{Bool, true, false, not, _&&_, cond}
@@ -20,8 +21,8 @@ use Rattle.method.specs.declared.Settings.{Settings}
 use Rattle.method.specs.declared.Tick.{Tick}
 use Rattle.method.specs.declared.Tick.the-variants.{Whole, Refused}
 use Rattle.method.specs.Cast.{Cast, cells, labelAt, isAir, isOpening, field, level, worst}
-use Rattle.method.specs.Levels.{value}
-use Rattle.method.specs.Rounds.{tick, kept, signed, furthest, nearest, ticks, isRefused, wholeOf, rounded, passes}
+use Rattle.method.specs.Transfers.{value}
+use Rattle.method.specs.Ticks.{tick, kept, signed, furthest, nearest, ticks, isRefused, wholeOf, rounded, passes}
 use Rattle.theory.proofs.Reach.{air-test, opening-test, in-box}
 
 -- ---- a tick that is not refused is within ±2^41

@@ -1,6 +1,6 @@
 -- QUESTION 3: how far the pressures of an accepted answer are from any exact solution. Assumes nothing.
 use Rattle.method.specs.Cast.{field}
-use Rattle.method.specs.Calls.{solving}
+use Rattle.method.specs.Solving.{solving}
 use Rattle.theory.specs.Exact.{bound, Bounds}
 use Rattle.theory.proofs.OnCast.{bound-on-cast}
 use Rattle.theory.proofs.Accepted.{sides-fit, sized, came-about, accepted-is}

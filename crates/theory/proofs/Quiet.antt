@@ -1,4 +1,5 @@
--- Off air every field of a cycle is +0: those that are made in air only, and what sweeps of air cells leave of such. Assumes nothing.
+-- Off air every field of a cycle is +0: those that are made in air only, and what sweeps of air cells leave of such.
+-- Assumes nothing.
 use Prim.Native.Nat.{ℕ, zero, suc, _<_}
 use mathlib.Core.Path.{_≡_, refl, sym, ap, _∙_}
 use mathlib.Core.Bool.{Bool, true, false, cond, false≢true}
@@ -11,8 +12,8 @@ use Rattle.laws.specs.Loops.{up, down}
 use Rattle.laws.proofs.Lists.{getD-tab}
 use Rattle.method.specs.declared.Sides.{Sides}
 use Rattle.method.specs.Cast.{Cast, cells, isAir}
-use Rattle.method.specs.Levels.{value, inAir, inBand}
-use Rattle.method.specs.Cycle.{change, jacobi, relaxed, ascending, descending, zeros, residue, corrected, times, coarsest, downstroke, upstroke, sweeps, cycle}
+use Rattle.method.specs.Transfers.{value, inAir}
+use Rattle.method.specs.Cycle.{inBand, change, jacobi, relaxed, ascending, descending, zeros, residue, corrected, times, coarsest, downstroke, upstroke, sweeps, cycle}
 use Rattle.method.specs.Rounds.{rightSide}
 use Rattle.theory.specs.Quiet.{Quiet}
 use Rattle.theory.proofs.Children.{band-air}

@@ -1,5 +1,5 @@
--- The walks of the meaning are walks: `walks s ls k` knows a cell exactly if it has a walk of at most k steps, by the least number of steps; and as many
--- steps as there are cells are enough. Assumes nothing.
+-- The walks of the meaning are walks: `walks s ls k` knows a cell exactly if it has a walk of at most k steps, by the
+-- least number of steps; and as many steps as there are cells are enough. Assumes nothing.
 use mathlib.Core.Path.{_≡_, refl, sym, ap, ap₂, subst, _∙_}
 use mathlib.Core.Logic.{_⊎_, inl, inr, ⊎-elim}
 use mathlib.Core.Bool.{Bool, true, false, not, _&&_, _||_, cond}
@@ -17,7 +17,8 @@ use Rattle.laws.proofs.Lists.{length-tab, getD-tab, any-some, any-in, any-cong}
 use Rattle.method.specs.declared.Sides.{Sides}
 use Rattle.method.specs.declared.Found.{Found}
 use Rattle.method.specs.declared.Found.the-variants.{Nowhere, At}
-use Rattle.method.specs.Cast.{cells, labelAt, isAir, isOpening, noWall, around, isAt, nearer, walks, walk}
+use Rattle.method.specs.Cast.{cells, labelAt, isAir, isOpening, noWall, around}
+use Rattle.method.specs.Walks.{isAt, nearer, walks, walk}
 use Rattle.theory.specs.Walks.{Beside, Walk, last, step}
 use Rattle.theory.specs.Totals.{total, one-if}
 use Rattle.theory.proofs.Counting.{count-le, agree}
@@ -252,7 +253,8 @@ module _ (s : Sides) (ls : List ℕ) where
           whole : r ≡ r - j + j
           whole = omega arith
 
--- ---- what the meaning's walk says of an air cell: the least number of face steps through air to an opening, or that there is no walk
+-- ---- what the meaning's walk says of an air cell: the least number of face steps through air to an opening, or that
+-- there is no walk
 module _ (s : Sides) (ls : List ℕ) (sized : length ls ≡ cells s) where
   pub least-walk : (i d : ℕ) → labelAt ls i ≡ 0 → getD (walk s ls) i Nowhere ≡ At d → Walk s ls i d × ((e : ℕ) → Walk s ls i e → d ≤ e)
   unfolding walk known

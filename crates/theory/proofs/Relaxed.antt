@@ -11,7 +11,7 @@ use Rattle.laws.specs.Binary64.{_⊕_, _⊖_, _⊗_, _⊘_, +0, ofℕ}
 use Rattle.laws.specs.Lists.{over}
 use Rattle.method.specs.declared.Sides.{Sides}
 use Rattle.method.specs.Cast.{cells, isAir, degree, around, sidesFit}
-use Rattle.method.specs.Levels.{value}
+use Rattle.method.specs.Transfers.{value}
 use Rattle.method.specs.Cycle.{airSum, applied, rest, change, relaxed}
 use Rattle.theory.specs.Walks.{Beside}
 use Rattle.theory.proofs.Neighbours.{beside-sym}

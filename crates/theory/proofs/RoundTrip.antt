@@ -1,4 +1,5 @@
--- A session written is read as what it was, and bytes that are accepted are the one spelling of what was read. Assumes nothing.
+-- A session written is read as what it was, and bytes that are accepted are the one spelling of what was read. Assumes
+-- nothing.
 use mathlib.Core.Path.{_≡_, refl, sym, ap, ap₂, subst, _∙_}
 use mathlib.Core.Bool.{Bool, true, not, _&&_}
 use mathlib.Core.List.{List, [], _∷_, _++_, append-assoc, flatMap}
@@ -15,14 +16,17 @@ use Rattle.method.specs.declared.Settings.{Settings}
 use Rattle.method.specs.declared.Order.{Order}
 use Rattle.method.specs.declared.Found.{Found}
 use Rattle.method.specs.declared.Found.the-variants.{Nowhere, At}
-use Rattle.method.specs.Cast.{Cast, cells, between, sidesFit, settingsFit, labelAt, field, widest, badValue}
-use Rattle.method.specs.Form.{Header, header, badLine, valueRead, valueWritten, labelsIn, valuesIn, castIn, headerWritten, written}
-use Rattle.method.specs.Answers.{Check, fault, Verdict, passed, refused, verdict, refusal, done, filled}
-use Rattle.method.specs.Calls.{Reading, Read, Writing, Written, named, bytesOf, labelFault, valueFault, lineCheck, sideCheck, bodyCheck, roomCheck, contentChecks, readerChecks, readingBy, reading, isRead, notRead, writerLengthsFit, writerChecks, writing}
+use Rattle.method.specs.Cast.{Cast, cells, between, sidesFit, settingsFit, labelAt, field, widest, badValue, labelFault, valueFault}
+use Rattle.method.specs.Form.{Header, badLine, valueRead, valueWritten, labelsIn, valuesIn, castIn, headerWritten, written}
+use Rattle.method.specs.Reading.{header}
+use Rattle.method.specs.Answers.{Check, fault, Verdict, passed, refused, verdict, refusal, done}
+use Rattle.method.specs.Rooms.{filled}
+use Rattle.method.specs.Reading.{Reading, Read, named, lineCheck, sideCheck, bodyCheck, roomCheck, contentChecks, readerChecks, readingBy, reading, isRead, notRead}
+use Rattle.method.specs.Writing.{Writing, Written, bytesOf, writerLengthsFit, writerChecks, writing}
 use Rattle.laws.proofs.Lists.{length-tab}
 use Rattle.laws.proofs.Bools.{and-l, and-r, so}
 use Rattle.theory.specs.Sessions.{Bytes, Read0, Written0, ReadBack, WrittenBack, again}
-use Rattle.theory.proofs.Verdicts.{AllPass, Judged, fine, faulty, judge, no-fault, not-passed, all-pass, pass-all, no-fault-in}
+use Rattle.theory.proofs.Verdicts.{AllPass, Judged, fine, faulty, judge, no-fault, not-passed, all-pass, pass-all, fault-no}
 use Rattle.theory.proofs.Sides.{fit, to}
 use Rattle.theory.proofs.Reach.{never}
 use Rattle.theory.proofs.Firsts.{Search, found, none, search-first}
@@ -168,14 +172,14 @@ module _ (k : Cast) (o : Order) (t : Settings) (z : Fine k t) where
   accepted vs l = (
     line-is,
     (
-      ap (λ h. fault (not (sidesFit (h .sides)))) header-is ∙ no-fault-in (sidesFit (k .sides)) (z .sides),
+      ap (λ h. fault (not (sidesFit (h .sides)))) header-is ∙ fault-no (sidesFit (k .sides)) (z .sides),
       (
         ap (λ h. fault (not (eqb (length (h .body)) (5 * cells (h .sides))))) header-is
-            ∙ no-fault-in (eqb (length body) (5 * cells (k .sides))) (eq-eqb (length body) (5 * cells (k .sides)) length-body),
+            ∙ fault-no (eqb (length body) (5 * cells (k .sides))) (eq-eqb (length body) (5 * cells (k .sides)) length-body),
         (
           ap (λ h. fault (ltb (length vs) (cells (h .sides)))) header-is ∙ ap fault (le-ltb (length vs) (cells (k .sides)) l),
           (
-            ap (λ h. fault (not (settingsFit (h .settings)))) header-is ∙ no-fault-in (settingsFit t) (z .settings),
+            ap (λ h. fault (not (settingsFit (h .settings)))) header-is ∙ fault-no (settingsFit t) (z .settings),
             (
               ap (λ h. labelFault (castIn h)) header-is ∙ ap labelFault cast-is ∙ z .label-fault,
               (
@@ -282,7 +286,7 @@ read-accepted r lent b v l =
     ap₂ _&&_ (eq-eqb (length (labelsIn h)) n (length-labels h e))
     (ap₂ _&&_ (eq-eqb (length (valuesIn h)) n (length-values h)) (le-leb (length (bytesOf (again r lent))) (length lent) m)) in
     pass-all writerChecks (again r lent)
-    (p .1 .0, (p .1 .1 .1 .1 .0, (no-fault-in (writerLengthsFit (again r lent)) sized, (p .1 .1 .1 .1 .1 .0, (p .1 .1 .1 .1 .1 .1 .0, tt)))))
+    (p .1 .0, (p .1 .1 .1 .1 .0, (fault-no (writerLengthsFit (again r lent)) sized, (p .1 .1 .1 .1 .1 .0, (p .1 .1 .1 .1 .1 .1 .0, tt)))))
 
 pub read-rewritten : (r : Reading) (lent : List ℕ) → Bytes (r .bytes) → Read0 r → length (r .bytes) ≤ length lent
     → WrittenBack (r .bytes) lent (writing (again r lent))

@@ -1,4 +1,5 @@
--- Sides within 1 to 32, level by level, and how many cells there are: the next level has at most half the cells, and one more. Assumes nothing.
+-- Sides within 1 to 32, level by level, and how many cells there are: the next level has at most half the cells, and
+-- one more. Assumes nothing.
 use mathlib.Core.Path.{_≡_}
 use mathlib.Core.Bool.{true}
 use Prim.Native.Nat.{ℕ, zero, suc, _+_, _*_, _/_, _≤_}

@@ -1,5 +1,6 @@
--- What a list of checks says: passed means that each check found nothing; a refusal has the number of one of them, and those before it passed. Assumes nothing.
-use mathlib.Core.Path.{_≡_, refl, sym, ap, _∙_}
+-- What a list of checks says: passed means that each check found nothing; a refusal has the number of one of them, and
+-- those before it passed. Assumes nothing.
+use mathlib.Core.Path.{_≡_, refl, sym, ap, ap₂, _∙_}
 use mathlib.Core.Bool.{Bool, true, false, not}
 use mathlib.Core.List.{List, [], _∷_}
 use Prim.Native.Nat.{ℕ, zero, suc, _<_, _≤_}
@@ -67,6 +68,40 @@ pass-all {A} (c ∷ cs) a p = ap after (p .0) ∙ pass-all cs a (p .1)
     after : Found → Verdict
     after f = elim f [ At place ↦ refused (c .number) place | Nowhere ↦ verdict cs a ]
 
-pub no-fault-in : (b : Bool) → b ≡ true → fault (not b) ≡ Nowhere
+pub fault-no : (b : Bool) → b ≡ true → fault (not b) ≡ Nowhere
 unfolding fault
-no-fault-in b e = ap (λ t. fault (not t)) e
+fault-no b e = rw e
+
+pub fault-yes : (b : Bool) → b ≡ false → fault (not b) ≡ At 0
+unfolding fault
+fault-yes b e = rw e
+
+-- ---- one check more
+abbrev pub after : ℕ → Found → Verdict → Verdict
+after k (At p) v = refused k p
+after k Nowhere v = v
+
+module _ {A : Type 0} where
+  pub verdict-cons : (c : Check A) (cs : List (Check A)) (a : A) → verdict (c ∷ cs) a ≡ after (c .number) (c .fails a) (verdict cs a)
+  unfolding verdict
+  verdict-cons c cs a = go (c .fails a)
+    where
+      go : (f : Found) → _≡_ {A = Verdict} (elim f [ At place ↦ refused (c .number) place | Nowhere ↦ verdict cs a ]) (after (c .number) f (verdict cs a))
+      go (At p) = refl
+      go Nowhere = refl
+
+  pub fails-at : (c : Check A) (cs : List (Check A)) (a : A) (p : ℕ) → c .fails a ≡ At p → verdict (c ∷ cs) a ≡ refused (c .number) p
+  fails-at c cs a p e = verdict-cons c cs a ∙ ap (λ f. after (c .number) f (verdict cs a)) e
+
+  pub passes-on : (c : Check A) (cs : List (Check A)) (a : A) → c .fails a ≡ Nowhere → verdict (c ∷ cs) a ≡ verdict cs a
+  passes-on c cs a e = verdict-cons c cs a ∙ ap (λ f. after (c .number) f (verdict cs a)) e
+
+  -- what is alike to every check has the same verdict
+  abbrev pub Agree : List (Check A) → A → A → Type 0
+  Agree [] a b = Unit {0}
+  Agree (c ∷ cs) a b = (c .fails a ≡ c .fails b) × Agree cs a b
+
+  pub verdict-agree : (cs : List (Check A)) (a b : A) → Agree cs a b → verdict cs a ≡ verdict cs b
+  unfolding verdict
+  verdict-agree [] a b h = refl
+  verdict-agree (c ∷ cs) a b h = verdict-cons c cs a ∙ ap₂ (after (c .number)) (h .0) (verdict-agree cs a b (h .1)) ∙ sym (verdict-cons c cs b)

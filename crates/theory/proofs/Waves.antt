@@ -1,4 +1,5 @@
--- A sweep in the order of i + j + k is the sweep in ascending number: a face neighbour of lower number is of a lower wave. Assumes nothing.
+-- A sweep in the order of i + j + k is the sweep in ascending number: a face neighbour of lower number is of a lower
+-- wave. Assumes nothing.
 use Prim.Native.Nat.{ℕ, zero, suc, _+_, _-_, _*_, _<_, _≤_}
 use mathlib.Core.Path.{_≡_, refl, sym, ap, _∙_}
 use mathlib.Core.Logic.{_⊎_, inl, inr, ⊎-elim}

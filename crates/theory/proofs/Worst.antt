@@ -1,4 +1,5 @@
--- Where the residual is worst: the first air cell of the greatest size, and what the rounds' end says of it. Assumes nothing.
+-- Where the residual is worst: the first air cell of the greatest size, and what the rounds' end says of it. Assumes
+-- nothing.
 use mathlib.Core.Path.{_≡_, refl, sym, ap, _∙_}
 use mathlib.Core.Bool.{Bool, true, not, _&&_}
 use mathlib.Core.List.{List}

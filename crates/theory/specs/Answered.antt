@@ -5,7 +5,7 @@ use mathlib.Core.List.{List}
 use lib.ListN.{length}
 use lib.IntN.{ℤ, pos, natAbs}
 use Rattle.method.specs.Cast.{cells, labelAt, field, residual, interior}
-use Rattle.method.specs.Calls.{Asked, solvedCast, size, Solved}
+use Rattle.method.specs.Solving.{Asked, solvedCast, size, Solved}
 use Rattle.theory.specs.Walks.{Walk}
 
 -- the label of a cell, and the exact residual that pressures leave there

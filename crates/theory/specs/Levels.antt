@@ -1,4 +1,5 @@
--- The levels of a box: level 0 is the cast itself, and each level is halved to the next. How many cells and air cells the first l levels have together.
+-- The levels of a box: level 0 is the cast itself, and each level is halved to the next. How many cells and air cells
+-- the first l levels have together.
 use Prim.Native.Nat.{ℕ, zero, suc, _+_}
 use mathlib.Core.List.{List}
 use Rattle.method.specs.declared.Sides.{Sides}

@@ -7,7 +7,8 @@ use lib.IntN.{ℤ}
 use Rattle.method.specs.Cast.{cells}
 use Rattle.method.specs.Form.{castIn}
 use Rattle.method.specs.Answers.{done, passed, verdict}
-use Rattle.method.specs.Calls.{Reading, Read, Writing, Written, readerChecks, writerChecks, named}
+use Rattle.method.specs.Reading.{Reading, Read, readerChecks, named}
+use Rattle.method.specs.Writing.{Writing, Written, writerChecks}
 
 -- each element of the list is a byte
 abbrev pub Bytes : List ℕ → Type 0

@@ -1,4 +1,5 @@
--- Document 01, "Numbers to check by hand", j and k: what `to_tick` gives there, whatever it is, is what the documents say; and other ties of wish 3. Assumes nothing.
+-- Document 01, "Numbers to check by hand", j and k: what `to_tick` gives there, whatever it is, is what the documents
+-- say; and other ties of wish 3. Assumes nothing.
 use Prim.Native.Nat.{_-_, _^_}
 use mathlib.Core.Path.{_≡_}
 use mathlib.Core.List.{[], _∷_}
@@ -6,7 +7,7 @@ use lib.IntN.{pos, negsuc}
 use lib.Ieee.{nan}
 use Rattle.method.specs.declared.Tick.{Tick}
 use Rattle.method.specs.declared.Tick.the-variants.{Whole, Refused}
-use Rattle.method.specs.Rounds.{tick}
+use Rattle.method.specs.Ticks.{tick}
 use Rattle.method.proofs.Cases.{½, -½, -0, 1½, 2½, -1½, -2½, below½, 2^41f, 2^41+1f, 2^41+½f, -2^41-½f, case-j, case-k, case-ties}
 
 pub ticked-j : (a b c d e : Tick) → a ≡ tick ½ → b ≡ tick -½ → c ≡ tick -0 → d ≡ tick 1½ → e ≡ tick 2½

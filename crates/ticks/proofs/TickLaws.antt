@@ -17,7 +17,7 @@ use Rattle.laws.specs.Binary64.{+0}
 use Rattle.laws.proofs.Bools.{split}
 use Rattle.method.specs.declared.Tick.{Tick}
 use Rattle.method.specs.declared.Tick.the-variants.{Whole, Refused}
-use Rattle.method.specs.Rounds.{nearest, furthest, signed, kept, tick}
+use Rattle.method.specs.Ticks.{nearest, furthest, signed, kept, tick}
 use Rattle.ticks.specs.TickSize.{size}
 use Rattle.ticks.proofs.TickNear.{no, nearest-low}
 

@@ -1,4 +1,5 @@
--- The whole number nearest to a number: its whole part, or one more, by how the number lies to its whole part and a half. Assumes nothing.
+-- The whole number nearest to a number: its whole part, or one more, by how the number lies to its whole part and a
+-- half. Assumes nothing.
 use Prim.Native.Nat.{ℕ, _+_, _*_, _/_, _%_, _^_, _≤_, _<_}
 use mathlib.Core.Path.{_≡_, refl, sym, ap, subst, _∙_}
 use mathlib.Core.Bool.{Bool, true, false, _||_, cond}
@@ -16,7 +17,7 @@ use lib.Ieee.Back.{round-whole}
 use lib.Ieee.Scale.{round-same}
 use lib.Ieee.Fits.{down-pos}
 use Rattle.laws.specs.Binary64.{_⊕_, +0, ofℕ}
-use Rattle.method.specs.Rounds.{tie, nearest}
+use Rattle.method.specs.Ticks.{tie, nearest}
 use Rattle.ticks.specs.TickSize.{beyond, size}
 
 -- ---- fractions: a = q * b + r, and m / d is q and a half. How a / b lies to m / d is how 2 r lies to b

@@ -18,7 +18,7 @@ use Rattle.laws.specs.Binary64.{ofℤ}
 use Rattle.laws.proofs.Bools.{split}
 use Rattle.method.specs.declared.Tick.{Tick}
 use Rattle.method.specs.declared.Tick.the-variants.{Whole, Refused}
-use Rattle.method.specs.Rounds.{nearest, signed, kept, tick, wholeOf}
+use Rattle.method.specs.Ticks.{nearest, signed, kept, tick, wholeOf}
 use Rattle.ticks.proofs.TickNear.{nearest-low}
 use Rattle.ticks.proofs.TickLaws.{kept-whole, kept-refused}
 

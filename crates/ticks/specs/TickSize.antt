@@ -3,7 +3,7 @@ use Prim.Native.Nat.{ℕ, _*_, _^_, min}
 use mathlib.Core.Bool.{false}
 use lib.IntN.{pos}
 use lib.Ieee.{Float, nan, inf, fin, up, down}
-use Rattle.method.specs.Rounds.{nearest}
+use Rattle.method.specs.Ticks.{nearest}
 
 abbrev pub beyond : Float
 beyond = fin false 1 (pos 42)

@@ -5,7 +5,7 @@ ghost use Prim.Native.Nat.{_+_, _^_, _≤_};
 ghost use lib.IntN.{natAbs};
 ghost use lib.Ieee.{lt};
 ghost use Rattle.laws.specs.Binary64.{+0, ofℤ};
-ghost use Rattle.method.specs.Rounds.{tie, kept, tick, wholeOf};
+ghost use Rattle.method.specs.Ticks.{tie, kept, tick, wholeOf};
 ghost use Rattle.ticks.specs.TickSize.{beyond, size};
 
 // The furthest tick either way, 2^41.
@@ -34,8 +34,8 @@ fn raised(low: u64, up: bool) -> u64
     if up { low + 1 } else { low }
 }
 
-// The whole number nearest to y, which is above zero and below 2^42: y lies below, above or at its whole part and a half. Below and above are
-// as likely, so the one branch is for what lies on it.
+// The whole number nearest to y, which is above zero and below 2^42: y lies below, above or at its whole part and a
+// half. Below and above are as likely, so the one branch is for what lies on it.
 fn rounded(y: f64) -> u64
     requires { ⌜ lt +0 y ≡ true ⌝ }
     requires { ⌜ lt y beyond ≡ true ⌝ }
@@ -75,7 +75,8 @@ fn kept_of(negative: bool, n: u64) -> method::Tick
     method::Tick::Whole(n as i64)
 }
 
-// The tick of any binary64: the nearest whole number, halves to the even one, within 2^41 either way; a NaN and an infinity have none.
+// The tick of any binary64: the nearest whole number, halves to the even one, within 2^41 either way; a NaN and an
+// infinity have none.
 pub fn to_tick(x: f64) -> method::Tick
     ensures { λ r. ⌜ r ≡ tick x ⌝ }
 {

@@ -8,7 +8,8 @@ use lib.Ieee.{Float}
 use Rattle.laws.specs.Binary64.{_⊕_, +0}
 use Rattle.laws.specs.Lists.{tab}
 use Rattle.method.specs.Cast.{cells, labelAt, isAir}
-use Rattle.method.specs.Levels.{half, halved, coarse, value, inAir, restricted}
+use Rattle.method.specs.Levels.{half, halved, coarse}
+use Rattle.method.specs.Transfers.{value, inAir, restricted}
 use Rattle.method.specs.Cycle.{corrected}
 use Rattle.method.specs.Computing.{computing}
 use Rattle.method.proofs.Cases.{cube, whole, 512f, 256f, 432f, 144f, corner, case-h, case-i}
@@ -30,7 +31,8 @@ pub restrict-h : (e s : List Float) → take 64 (drop 128 e) ≡ replicate 64 51
 unfolding cells halved half
 restrict-h e s t q = q ∙ ap (λ r. take 200 e ++ r ++ drop 208 e) (ap (restricted cube air) t ∙ case-h)
 
--- case i: where the fine u is 0 and the coarse u is 256 at its first cell and else 0, the first three cells of the fine u become 432, 432, 144
+-- case i: where the fine u is 0 and the coarse u is 256 at its first cell and else 0, the first three cells of the fine
+-- u become 432, 432, 144
 added : List Float → List Float
 added l = map (λ x. +0 ⊕ x) l
 

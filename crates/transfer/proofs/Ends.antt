@@ -19,7 +19,8 @@ use Rattle.laws.proofs.Lists.{length-tab, getD-tab}
 use Rattle.laws.proofs.Fill.{up-same, tab-same}
 use Rattle.method.specs.declared.Sides.{Sides}
 use Rattle.method.specs.Cast.{cells, isAir}
-use Rattle.method.specs.Levels.{halved, coarse, value, drawnBy, givenTo, weighted, restrictionOver, prolongationOver, inAir, restricted, prolongated}
+use Rattle.method.specs.Levels.{halved, coarse}
+use Rattle.method.specs.Transfers.{value, drawnBy, givenTo, weighted, restrictionOver, prolongationOver, inAir, restricted, prolongated}
 use Rattle.method.specs.Cycle.{corrected}
 use Rattle.theory.specs.Quiet.{Quiet}
 use Rattle.grid.proofs.Steps.{label-in}

@@ -11,7 +11,8 @@ use Rattle.laws.specs.Binary64.{_⊕_, _⊗_, +0, ofℕ}
 use Rattle.laws.proofs.Fill.{up-same, over-tab}
 use Rattle.method.specs.declared.Sides.{Sides}
 use Rattle.method.specs.Cast.{cells, along, axes, isAir}
-use Rattle.method.specs.Levels.{halved, halvings, Drawn, placed, choice, choices, axisWeight, value, drawnBy, givenTo, weighted, restrictionOver, prolongationOver}
+use Rattle.method.specs.Levels.{halved, halvings, Drawn, placed, choice, choices}
+use Rattle.method.specs.Transfers.{axisWeight, value, drawnBy, givenTo, weighted, restrictionOver, prolongationOver}
 use Rattle.method.specs.Computing.{computing}
 use Rattle.grid.specs.declared.place.Spot.{Spot}
 use Rattle.grid.specs.Place.{SpotOf, placeAt}

@@ -17,7 +17,8 @@ use Rattle.laws.proofs.Fill.{up-same}
 use Rattle.laws.proofs.Zeros.{Plain, plain-zero, plain-sum, added, times-zero}
 use Rattle.method.specs.declared.Sides.{Sides}
 use Rattle.method.specs.Cast.{cells, number, along, labelAt, isAir}
-use Rattle.method.specs.Levels.{halved, axisWeight, value, drawnBy, givenTo, weighted}
+use Rattle.method.specs.Levels.{halved}
+use Rattle.method.specs.Transfers.{axisWeight, value, drawnBy, givenTo, weighted}
 use Rattle.theory.specs.Quiet.{Quiet}
 use Rattle.theory.specs.Sides.{x-axis, y-axis, z-axis}
 use Rattle.theory.proofs.Numbers.{number-in, coordinates-in}

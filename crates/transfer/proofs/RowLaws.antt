@@ -1,4 +1,5 @@
--- A source row and a target row: a cell of the row, the four of a coarse cell, the two of a fine cell, the row of targets. Assumes nothing.
+-- A source row and a target row: a cell of the row, the four of a coarse cell, the two of a fine cell, the row of
+-- targets. Assumes nothing.
 use Prim.Native.Nat.{ℕ, zero, suc, _+_, _-_, _*_, _/_, _%_, _<_, _≤_}
 use mathlib.Core.Path.{_≡_, refl, sym, ap, ap₂, _∙_}
 use mathlib.Core.Bool.{Bool, true, false, _&&_, cond}

@@ -1,4 +1,5 @@
--- A source row is added to all cells of a target row: what these hold then, cell by cell; and after all source rows. Assumes nothing.
+-- A source row is added to all cells of a target row: what these hold then, cell by cell; and after all source rows.
+-- Assumes nothing.
 use Prim.Native.Nat.{ℕ, zero, suc, _+_, _-_, _*_, _/_, _%_, _<_, _≤_}
 use mathlib.Core.Path.{_≡_, refl, sym, ap, ap₂, _∙_}
 use mathlib.Core.Logic.{_⊎_, inl, inr, ⊎-elim}
@@ -18,7 +19,7 @@ use Rattle.laws.proofs.Loops.{ups}
 use Rattle.laws.proofs.Fill.{part-take, part-drop}
 use Rattle.method.specs.declared.Sides.{Sides}
 use Rattle.method.specs.Cast.{cells, number}
-use Rattle.method.specs.Levels.{axisWeight, value}
+use Rattle.method.specs.Transfers.{axisWeight, value}
 use Rattle.theory.proofs.Numbers.{number-in}
 use Rattle.grid.specs.Place.{inBox, placeAt}
 use Rattle.transfer.specs.Transfer.{weightOf}

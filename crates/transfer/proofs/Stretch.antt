@@ -1,4 +1,5 @@
--- A stretch of a room: what is around it stays, what it holds, the same stretch again, the stretch after it. Assumes nothing.
+-- A stretch of a room: what is around it stays, what it holds, the same stretch again, the stretch after it. Assumes
+-- nothing.
 use Prim.Native.Nat.{ℕ, zero, suc, _+_, _-_, _*_, _<_, _≤_}
 use mathlib.Core.Path.{_≡_, refl, sym, ap, ap₂, _∙_}
 use mathlib.Core.Logic.{_⊎_, ⊎-elim}
@@ -14,7 +15,7 @@ use Rattle.laws.specs.Binary64.{+0}
 use Rattle.laws.proofs.Loops.{Up, up-end}
 use Rattle.laws.proofs.Lists.{length-tab, getD-tab}
 use Rattle.laws.proofs.Fill.{tab-same, part-take, part-drop, filled}
-use Rattle.method.specs.Levels.{value}
+use Rattle.method.specs.Transfers.{value}
 use Rattle.transfer.specs.Rows.{Stretch}
 
 -- two tabs, one after the other

@@ -1,4 +1,5 @@
--- Transfers by rows: what a source row adds to the sums of a target row, and what these are after all source rows, whatever the labels.
+-- Transfers by rows: what a source row adds to the sums of a target row, and what these are after all source rows,
+-- whatever the labels.
 use Prim.Native.Nat.{ℕ, _+_, _-_, _*_, _/_, _%_, _≤_, _<_}
 use mathlib.Core.Path.{_≡_}
 use mathlib.Core.Bool.{_&&_, cond}
@@ -11,7 +12,8 @@ use Rattle.laws.specs.Lists.{tab}
 use Rattle.laws.specs.Binary64.{_⊕_, _⊗_, _⊘_, +0, ofℕ}
 use Rattle.method.specs.declared.Sides.{Sides}
 use Rattle.method.specs.Cast.{cells, along}
-use Rattle.method.specs.Levels.{halved, value, restrictionOver, prolongationOver}
+use Rattle.method.specs.Levels.{halved}
+use Rattle.method.specs.Transfers.{value, restrictionOver, prolongationOver}
 use Rattle.theory.specs.Sides.{Fit, x-axis, y-axis, z-axis}
 use Rattle.grid.specs.Place.{inBox, placeAt}
 use Rattle.transfer.specs.Transfer.{weightOf}
@@ -80,7 +82,8 @@ pub record Spread (g : Sides) (n from o m y z : ℕ) (e : List Float) : Type 0 w
   pub y-32 : y < 32
   pub z-32 : z < 32
 
--- the room after the source row at b, c, counted from one, where it is in the box; j and k are its places among the four along y and z
+-- the room after the source row at b, c, counted from one, where it is in the box; j and k are its places among the
+-- four along y and z
 unfoldable pub sourceStep : Share → Sides → ℕ → ℕ → ℕ → ℕ → ℕ → ℕ → ℕ → List Float → List Float
 sourceStep share g from o m b c j k e =
     cond (ltb (placeAt g 1 b c) (cells g)) (up (rowStep share (from + placeAt g 1 b c) (g .nx) o (ofℕ (weightOf 0 j k)) (ofℕ (weightOf 1 j k))) m e) e

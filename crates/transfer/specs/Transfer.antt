@@ -7,7 +7,8 @@ use lib.Ieee.{Float}
 use Rattle.laws.specs.Lists.{tab}
 use Rattle.method.specs.declared.Sides.{Sides}
 use Rattle.method.specs.Cast.{cells}
-use Rattle.method.specs.Levels.{halved, coarse, axisWeight, givenTo, weighted, restricted}
+use Rattle.method.specs.Levels.{halved, coarse}
+use Rattle.method.specs.Transfers.{axisWeight, givenTo, weighted, restricted}
 use Rattle.method.specs.Cycle.{corrected}
 use Rattle.theory.specs.Sides.{Fit}
 

@@ -1,4 +1,5 @@
-// What both transfers do to a row: a sum with one cell of a source row more, and the sums of a target row at their start.
+// What both transfers do to a row: a sum with one cell of a source row more, and the sums of a target row at their
+// start.
 ghost use mathlib.Core.Path.{_≡_};
 ghost use Prim.Native.Nat.{_+_, _≤_};
 ghost use lib.ListN.{length};

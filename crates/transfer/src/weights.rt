@@ -2,7 +2,7 @@
 ghost use mathlib.Core.Path.{_≡_};
 ghost use Prim.Native.Nat.{_≤_, _<_};
 ghost use Rattle.laws.specs.Binary64.{ofℕ};
-ghost use Rattle.method.specs.Levels.{axisWeight};
+ghost use Rattle.method.specs.Transfers.{axisWeight};
 ghost use Rattle.transfer.specs.Transfer.{weightOf};
 
 // The weight of the q-th of the four along an axis: the two in the middle have 3.

@@ -1,5 +1,5 @@
--- Document 01, cases a, b, c and f, by the code: these casts meet what `test`, `write_ticks` and `residual_at` require, and what they ensure gives what the document
--- says. Assumes nothing.
+-- Document 01, cases a, b, c and f, by the code: these casts meet what `test`, `write_ticks` and `residual_at` require,
+-- and what they ensure gives what the document says. Assumes nothing.
 use mathlib.Core.Path.{_≡_, refl, _∙_}
 use mathlib.Core.List.{List, [], _∷_}
 use Prim.Native.Nat.{ℕ, _<_}
@@ -9,7 +9,7 @@ use lib.Ieee.{Float, nan}
 use Rattle.laws.specs.Binary64.{+0, ofℤ}
 use Rattle.method.specs.declared.Settings.{Settings}
 use Rattle.method.specs.Cast.{cells, labelAt, between, sidesFit}
-use Rattle.method.specs.Rounds.{rounded}
+use Rattle.method.specs.Ticks.{rounded}
 use Rattle.method.specs.Computing.{computing}
 use Rattle.theory.proofs.Sides.{fit}
 use Rattle.method.proofs.Cases.{row, cast, ½}

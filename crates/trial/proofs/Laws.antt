@@ -1,4 +1,5 @@
--- Laws of the test, cell by cell: a cell's pressure is that of the rounded ticks; refused ticks; the verdict. Assumes nothing.
+-- Laws of the test, cell by cell: a cell's pressure is that of the rounded ticks; refused ticks; the verdict. Assumes
+-- nothing.
 use mathlib.Core.Path.{_≡_, refl, sym, ap, ap₂, _∙_}
 use mathlib.Core.Logic.{⊎-elim}
 use mathlib.Core.Bool.{Bool, true, false, not, _&&_, _||_, cond}
@@ -30,8 +31,8 @@ use Rattle.method.specs.declared.Found.the-variants.{Nowhere, At}
 use Rattle.method.specs.declared.Tick.{Tick}
 use Rattle.method.specs.declared.Tick.the-variants.{Whole, Refused}
 use Rattle.method.specs.Cast.{cells, labelAt, isAir, isOpening, field, level, judged, residual, worst, orElse, first}
-use Rattle.method.specs.Levels.{value}
-use Rattle.method.specs.Rounds.{tick, ticks, isRefused, wholeOf, rounded, passes}
+use Rattle.method.specs.Transfers.{value}
+use Rattle.method.specs.Ticks.{tick, ticks, isRefused, wholeOf, rounded, passes}
 use Rattle.theory.proofs.Firsts.{None, none-none, none-end, hit, first-cong}
 use Rattle.theory.proofs.Pressures.{length-rounded}
 use Rattle.grid.proofs.Steps.{label-out}

@@ -7,8 +7,8 @@ use lib.IntN.{ℤ, pos, natAbs}
 use lib.Ieee.{Float}
 use Rattle.method.specs.declared.Sides.{Sides}
 use Rattle.method.specs.Cast.{isAir}
-use Rattle.method.specs.Levels.{value}
-use Rattle.method.specs.Rounds.{tick, isRefused, wholeOf, rounded}
+use Rattle.method.specs.Transfers.{value}
+use Rattle.method.specs.Ticks.{tick, isRefused, wholeOf, rounded}
 use Rattle.ticks.specs.declared.Faces.{Faces}
 use Rattle.ticks.specs.Faces.{Visited}
 

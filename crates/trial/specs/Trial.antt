@@ -9,7 +9,7 @@ use lib.ListN.{length}
 use Rattle.method.specs.declared.Sides.{Sides}
 use Rattle.method.specs.declared.Settings.{Settings}
 use Rattle.method.specs.Cast.{Cast, cells, worst}
-use Rattle.method.specs.Rounds.{rounded, passes}
+use Rattle.method.specs.Ticks.{rounded, passes}
 use Rattle.theory.specs.Sides.{Fit}
 use Rattle.trial.specs.declared.Tested.{Tested}
 use Rattle.trial.specs.declared.Tested.the-variants.{Passed, Failed}

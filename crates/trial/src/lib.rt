@@ -1,12 +1,12 @@
-// Document 01's test of a round: x rounded to whole ticks, and judged by the exact residuals that these leave. Each tick is taken
-// from x where it is wanted, so the test needs no room.
+// Document 01's test of a round: x rounded to whole ticks, and judged by the exact residuals that these leave. Each
+// tick is taken from x where it is wanted, so the test needs no room.
 ghost use mathlib.Core.Path.{_≡_};
 ghost use Prim.Native.Nat.{_≤_, _<_, _^_};
 ghost use lib.IntN.{natAbs};
 ghost use lib.ListN.{length, set};
 ghost use Rattle.method.specs.Cast.{cells, labelAt, field};
-ghost use Rattle.method.specs.Levels.{value};
-ghost use Rattle.method.specs.Rounds.{rounded};
+ghost use Rattle.method.specs.Transfers.{value};
+ghost use Rattle.method.specs.Ticks.{rounded};
 ghost use Rattle.ticks.specs.Faces.{Gathered, Residual};
 ghost use Rattle.ticks.specs.Worst.{worstStep};
 ghost use Rattle.trial.specs.Trial.{Asked, tested};
@@ -107,8 +107,8 @@ fn refused_at(labels: &[u8], x: &[f64], c: usize) -> bool
     }
 }
 
-// The test, left at the first air cell that fails it: its tick is refused, or its residual is beyond the tolerance. The worst so far
-// is within the tolerance, so it is beyond it only where cell c's residual is.
+// The test, left at the first air cell that fails it: its tick is refused, or its residual is beyond the tolerance. The
+// worst so far is within the tolerance, so it is beyond it only where cell c's residual is.
 pub fn test(g: Sides, labels: &[u8], values: &[i32], x: &[f64], settings: Settings) -> Tested
     requires { ⌜ Asked g (now labels) (now values) (now x) × (settings .tolerance ≤ 1000000) ⌝ }
     ensures { λ r. ⌜ r ≡ tested (record { sides = g; labels = now (labels .entry); values = now (values .entry) }) settings (now (x .entry)) ⌝ }

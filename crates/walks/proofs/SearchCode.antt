@@ -19,7 +19,7 @@ use Rattle.laws.proofs.Lists.{getD-any}
 use Rattle.laws.proofs.Loops.{Up, up-none, up-more, up-end}
 use Rattle.method.specs.declared.Sides.{Sides}
 use Rattle.method.specs.Cast.{Axis, cells, axes, labelAt, isAir, isOpening, back, on, beside, around}
-use Rattle.method.specs.Answers as answers
+use Rattle.method.specs.Rooms as answers
 use Rattle.theory.specs.Sides.{x-axis, y-axis, z-axis}
 use Rattle.theory.proofs.Counting.{count-le}
 use Rattle.theory.proofs.Firsts.{none-none, none-more, none-end, hit}

@@ -1,4 +1,5 @@
--- The search is right: over any distances that go by neighbours, its marks end as one more than the distance, and 0 where there is none. Assumes nothing.
+-- The search is right: over any distances that go by neighbours, its marks end as one more than the distance, and 0
+-- where there is none. Assumes nothing.
 use Prim.Native.Nat.{ℕ, zero, suc, _+_, _-_, _<_, _≤_}
 use mathlib.Core.Path.{_≡_, refl, sym, ap, subst, _∙_}
 use mathlib.Core.Logic.{⊎-elim}

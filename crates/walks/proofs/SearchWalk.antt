@@ -1,4 +1,5 @@
--- The distances of the meaning are such as the search finds: so its marks are those of `walk`, and give depth and the first sealed cell. Assumes nothing.
+-- The distances of the meaning are such as the search finds: so its marks are those of `walk`, and give depth and the
+-- first sealed cell. Assumes nothing.
 use Prim.Native.Nat.{ℕ, zero, suc, _+_, _-_, _<_, _≤_, max}
 use mathlib.Core.Path.{_≡_, refl, sym, ap, ap₂, _∙_}
 use mathlib.Core.Logic.{_⊎_, inl, inr, ⊎-elim}
@@ -16,7 +17,8 @@ use Rattle.laws.proofs.Lists.{length-tab, getD-tab}
 use Rattle.method.specs.declared.Sides.{Sides}
 use Rattle.method.specs.declared.Found.{Found}
 use Rattle.method.specs.declared.Found.the-variants.{Nowhere, At}
-use Rattle.method.specs.Cast.{cells, isAir, isOpening, around, judged, isAt, nearer, walks, walk, stepsOf, depth, orElse, first, sealed}
+use Rattle.method.specs.Cast.{cells, isAir, isOpening, around, judged, orElse, first}
+use Rattle.method.specs.Walks.{isAt, nearer, walks, walk, stepsOf, depth, sealed}
 use Rattle.theory.specs.Walks.{Walk, last, step}
 use Rattle.theory.specs.Sides.{Fit}
 use Rattle.theory.proofs.Neighbours.{beside-sym′}

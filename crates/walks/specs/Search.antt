@@ -10,7 +10,8 @@ use Rattle.laws.specs.Lists.{over}
 use Rattle.method.specs.declared.Sides.{Sides}
 use Rattle.method.specs.declared.Found.{Found}
 use Rattle.method.specs.declared.Found.the-variants.{Nowhere, At}
-use Rattle.method.specs.Cast.{Axis, cells, isAir, isOpening, back, on, around, depth, sealed}
+use Rattle.method.specs.Cast.{Axis, cells, isAir, isOpening, back, on, around}
+use Rattle.method.specs.Walks.{depth, sealed}
 use Rattle.walks.specs.declared.Walked.{Walked}
 use Rattle.theory.specs.Sides.{Fit}
 use Rattle.theory.specs.Totals.{total, one-if}
@@ -75,7 +76,8 @@ unfoldable pub lost : List ℕ → List ℕ → ℕ → Bool
 lost ls room c = isAir ls c && eqb (getD room c 0) 0
 
 -- ---- what the stores of the search rest on
--- Cells and queue fit the room, the queue holds cells, no mark is above the number of cells in the queue, and the queue has no more cells than are marked, so an unmarked cell has a place in it.
+-- Cells and queue fit the room, the queue holds cells, no mark is above the number of cells in the queue, and the queue
+-- has no more cells than are marked, so an unmarked cell has a place in it.
 pub record Safe (n : ℕ) (q : Queue) : Type 0 where
   pub few : n ≤ 32768
   pub long : n + n ≤ length (q .room)

@@ -1,5 +1,6 @@
 // The search for distances: from the openings outwards, each cell once, in a lent room of marks and a queue.
-// The marks come first, one for each cell: 0, or one more than the cell's distance. The queue of cells comes after them.
+// The marks come first, one for each cell: 0, or one more than the cell's distance. The queue of cells comes after
+// them.
 use grid::near::step_back;
 use grid::near::step_on;
 ghost use mathlib.Core.Path.{_≡_};

@@ -46,25 +46,8 @@ narrow-fits z h = record { sfits = omega (arith, mag-le z) }
 pub unsigned : (d : ℕ) → d ≤ 6 → toZ w64 d ≡ pos d
 unsigned d h = toZ-pos w64 (omega arith)
 
--- ---- sizes
-pub abs-minus : (a : ℤ) → natAbs (pos 0 -ᶻ a) ≡ natAbs a
-abs-minus a = ap natAbs (zero-plus (neg a)) ∙ abs-neg a
-  where
-    zero-plus : (x : ℤ) → pos 0 +ᶻ x ≡ x
-    zero-plus x = let X = at x in z-eq (search lin) (omega arith)
-
-pub minus-nonneg : (a : ℤ) → a <ℤ pos 0 → pos 0 ≤ℤ pos 0 -ᶻ a
-minus-nonneg a h = let A = at a in z-le (search lin) (omega (arith, lt-z (search lin) h))
-
 pub abs-32 : (z : ℤ) → SFits w32 z → natAbs z ≤ 2 ^ 31
 abs-32 z f = natAbs-le z (f .sfits)
-
--- a signed test, as a branch leaves it
-pub lt-true : (a b : ℤ) → ltZ a b ≡ true → a <ℤ b
-lt-true a b e = ltZ-yes (rw e tt)
-
-pub lt-false : (a b : ℤ) → ltZ a b ≡ false → b ≤ℤ a
-lt-false a b e = ltZ-no {a = a} {b = b} (rw e tt)
 
 -- ---- what a caller meets: an argument and a result stand behind their bits
 pub asks-size : (a : ℤ) (n : ℕ) → SFits w64 a → natAbs a < n → natAbs (toZ w64 (ofZ w64 a)) < n

@@ -1,2 +1,3 @@
 -- What the proofs of this crate and of its callers cite.
 pub mod Laws
+pub mod Signs

@@ -1,9 +1,8 @@
-// The few operations on i64 through which all signed code goes. Their contracts speak of whole numbers and of sizes, so that no caller meets
-// the bits.
+// The few operations on i64 through which all signed code goes. Their contracts speak of whole numbers and of sizes, so
+// that no caller meets the bits.
 ghost use mathlib.Core.Path.{_≡_};
 ghost use Prim.Native.Nat.{_+_, _^_, _<_, _≤_};
 ghost use lib.IntN.{pos, natAbs};
-ghost use lib.Signed.{_≤ℤ_};
 ghost use Rattle.laws.specs.Whole.{_+ᶻ_, _-ᶻ_, _*ᶻ_};
 
 pub fn plus(a: i64, b: i64) -> i64
@@ -34,19 +33,11 @@ pub fn wide(a: i32) -> i64
     a as i64
 }
 
-// The size of a number that is not negative.
-fn plain(a: i64) -> u64
-    requires { ⌜ pos 0 ≤ℤ a ⌝ }
-    ensures { λ r. ⌜ r ≡ natAbs a ⌝ }
-{
-    a as u64
-}
-
+// The size of any i64, of the least too.
 pub fn size(a: i64) -> u64
-    requires { ⌜ natAbs a < 2 ^ 63 ⌝ }
     ensures { λ r. ⌜ r ≡ natAbs a ⌝ }
 {
-    if a < 0 { plain(minus(0, a)) } else { plain(a) }
+    if a < 0 { (-1 - a) as u64 + 1 } else { a as u64 }
 }
 
 // The size of any i32, of the least too.

@@ -1,4 +1,5 @@
--- Document 01, case g, by the promise of `store_values`: the bytes 00 00 02 00 are 512 in a session that says big, and 131,072 in one that says little. Assumes nothing.
+-- Document 01, case g, by the promise of `store_values`: the bytes 00 00 02 00 are 512 in a session that says big, and
+-- 131,072 in one that says little. Assumes nothing.
 use mathlib.Core.Path.{_≡_, ap, _∙_}
 use mathlib.Core.List.{List, [], _∷_}
 use Prim.Native.Nat.{ℕ}
@@ -8,7 +9,7 @@ use Rattle.laws.specs.Lists.{tab}
 use Rattle.method.specs.declared.Order.{Order}
 use Rattle.method.specs.declared.Order.the-variants.{Big, Little}
 use Rattle.method.specs.Form.{valueRead}
-use Rattle.method.specs.Answers.{filled}
+use Rattle.method.specs.Rooms.{filled}
 use Rattle.method.proofs.Cases.{case-g}
 use Rattle.words.specs.Body.{valueIn}
 

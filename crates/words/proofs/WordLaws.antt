@@ -12,16 +12,17 @@ use lib.ListN.{length, getD, set, take, drop, length-set}
 use lib.Seq.{drop-cons, set-at, append-snoc}
 use lib.IntN.{ℤ, pos, negsuc, natAbs, _-ℤ_}
 use lib.Signed.{ltZ, nonNeg, mag}
-use mir.Syntax.{Width, w32}
+use mir.Syntax.{w32}
 use mir.Val.{Fits, SFits, toZ, ofZ}
 use mir.Facts.{toZ-ofZ, toZ-pos, sfits-toZ}
 use Rattle.laws.specs.Lists.{tab}
 use Rattle.laws.proofs.Lists.{getD-any, length-tab}
 use Rattle.laws.proofs.Fill.{tab-snoc}
+use Rattle.whole.proofs.Signs.{same, below, above, turned-fits, turned-read}
 use Rattle.method.specs.declared.Order.{Order}
 use Rattle.method.specs.declared.Order.the-variants.{Big, Little}
 use Rattle.method.specs.Cast.{labelAt, widest}
-use Rattle.method.specs.Answers.{filled}
+use Rattle.method.specs.Rooms.{filled}
 use Rattle.method.specs.Form.{inOrder, mostFirst, twosComplement, wordOf, valueRead}
 use Rattle.words.specs.Body.{isBig, valueIn, badValueIn}
 
@@ -60,38 +61,6 @@ module _ (w : ℕ) (h : 2147483648 ≤ w) (f : Fits w32 w) where
   signed-high = toZ-ofZ signed-fits ∙ from-high
 
 -- ---- back to a word
-one-minus-neg : (n : ℕ) → negsuc 0 -ℤ negsuc n ≡ pos n
-one-minus-neg n = rw (le-ltb (suc n) 1 (omega arith)) (ap pos (omega arith))
-
-negative : (v : ℤ) → ltZ v (pos 0) ≡ true → v ≡ negsuc (mag v)
-negative (pos n) e = absurd (omega (arith, ltb-true n 0 e))
-negative (negsuc n) e = refl
-
-positive : (v : ℤ) → ltZ v (pos 0) ≡ false → v ≡ pos (mag v)
-positive (pos n) e = refl
-positive (negsuc n) e = absurd (true≢false e)
-
--- v as the code reads it from its bits, at any width
-module _ {w : Width} (v : ℤ) (f : SFits w v) where
-  pub same : toZ w (ofZ w v) ≡ v
-  same = toZ-ofZ f
-
-  module _ (e : ltZ (toZ w (ofZ w v)) (pos 0) ≡ true) where
-    pub below : v ≡ negsuc (mag v)
-    below = negative v (rw same at e)
-
-    turned : negsuc 0 -ℤ toZ w (ofZ w v) ≡ pos (mag v)
-    turned = ap (λ z. negsuc 0 -ℤ z) (same ∙ below) ∙ one-minus-neg (mag v)
-
-    pub turned-fits : SFits w (negsuc 0 -ℤ toZ w (ofZ w v))
-    turned-fits = rw turned (record { sfits = f .sfits })
-
-    pub turned-read : toZ w (ofZ w (negsuc 0 -ℤ toZ w (ofZ w v))) ≡ pos (mag v)
-    turned-read = toZ-ofZ turned-fits ∙ turned
-
-  pub above : ltZ (toZ w (ofZ w v)) (pos 0) ≡ false → v ≡ pos (mag v)
-  above e = positive v (rw same at e)
-
 -- an i32 as a word
 module _ (v : ℤ) (f : SFits w32 v) where
   module _ (e : ltZ (toZ w32 (ofZ w32 v)) (pos 0) ≡ true) where

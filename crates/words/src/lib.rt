@@ -3,7 +3,7 @@ ghost use mathlib.Core.Path.{_≡_};
 ghost use mathlib.Core.List.{[], _∷_};
 ghost use Prim.Native.Nat.{_+_, _*_, _≤_, _<_};
 ghost use Rattle.laws.specs.Lists.{tab};
-ghost use Rattle.method.specs.Answers.{filled};
+ghost use Rattle.method.specs.Rooms.{filled};
 ghost use lib.ListN.{length, take, drop};
 ghost use Rattle.method.specs.Cast.{first};
 ghost use Rattle.method.specs.Form.{inOrder, mostFirst, twosComplement, wordOf};

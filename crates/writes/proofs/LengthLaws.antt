@@ -11,7 +11,8 @@ use Rattle.method.specs.declared.Sides.{Sides}
 use Rattle.method.specs.declared.Order.{Order}
 use Rattle.method.specs.declared.Order.the-variants.{Big, Little}
 use Rattle.method.specs.declared.Settings.{Settings}
-use Rattle.method.specs.Form.{decimal, line, orderWord, headerWritten, valueWritten, written}
+use Rattle.method.specs.Numbers.{decimal}
+use Rattle.method.specs.Form.{line, orderWord, headerWritten, valueWritten, written}
 use Rattle.writes.specs.Lengths.{threeLines, ThreeDigits, OrderLength, HeaderLength}
 use Rattle.writes.proofs.PartLaws.{sideLines, settingLines, header-parts, values-length}
 

@@ -18,7 +18,8 @@ use Rattle.method.specs.declared.Sides.{Sides}
 use Rattle.method.specs.declared.Settings.{Settings}
 use Rattle.method.specs.declared.Order.{Order}
 use Rattle.method.specs.declared.Order.the-variants.{Big, Little}
-use Rattle.method.specs.Form.{decimal, line, orderWord, headerWritten, inOrder, fourBytes, wordOf, valueWritten, written}
+use Rattle.method.specs.Numbers.{decimal}
+use Rattle.method.specs.Form.{line, orderWord, headerWritten, inOrder, fourBytes, wordOf, valueWritten, written}
 use Rattle.puts.specs.Puts.{Put}
 use Rattle.puts.proofs.PutLaws.{put-length, put-then, all-put, first-room, second-room, third-room}
 use Rattle.writes.specs.Lengths.{threeLines}

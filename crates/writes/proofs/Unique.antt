@@ -1,4 +1,5 @@
--- The promise of `header_length` allows one result; that of `put_session` does so by `put-one` of `puts`. Assumes nothing.
+-- The promise of `header_length` allows one result; that of `put_session` does so by `put-one` of `puts`. Assumes
+-- nothing.
 use mathlib.Core.Path.{_≡_, sym, _∙_}
 use Prim.Native.Nat.{ℕ}
 use Rattle.method.specs.declared.Sides.{Sides}

@@ -7,7 +7,8 @@ use Rattle.laws.specs.Text.{text}
 use Rattle.method.specs.declared.Sides.{Sides}
 use Rattle.method.specs.declared.Order.{Order}
 use Rattle.method.specs.declared.Settings.{Settings}
-use Rattle.method.specs.Form.{decimal, line, orderWord, headerWritten}
+use Rattle.method.specs.Numbers.{decimal}
+use Rattle.method.specs.Form.{line, orderWord, headerWritten}
 
 pub record ThreeDigits (a b c r : ℕ) : Type 0 where
   pub is : r ≡ length (decimal a) + length (decimal b) + length (decimal c)

@@ -1,7 +1,8 @@
--- `airway_large::run_large` meets its contract: the arrays' own lengths are the buffer and the rooms for the greatest casts. Assumes nothing.
+-- `airway_large::run_large` meets its contract: the arrays' own lengths are the buffer and the rooms for the greatest
+-- casts. Assumes nothing.
 use native.Mathlib.Omega.{arith}
 use borrow.Author.Needs.{needs}
-use Rattle.method.specs.Answers.{byteNeed, floatNeed, wordNeed}
+use Rattle.method.specs.Rooms.{byteNeed, floatNeed, wordNeed}
 use Rattle.prints.specs.Prints.{largeRoom}
 use Rattle.prints.proofs.Fronts.{buffer-for, large-room}
 use Rattle.airway_large.proofs.run_large.Statement.{statement}

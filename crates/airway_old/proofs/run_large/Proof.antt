@@ -1,7 +1,7 @@
 -- `airway_old::run_large` meets its contract: the arrays' own lengths are the buffer and the rooms for the greatest casts. Assumes nothing.
 use native.Mathlib.Omega.{arith}
 use borrow.Author.Needs.{needs}
-use Rattle.method.specs.Answers.{byteNeed, floatNeed, wordNeed}
+use Rattle.method.specs.Rooms.{byteNeed, floatNeed, wordNeed}
 use Rattle.prints.proofs.Fronts.{large-room}
 use Rattle.prints.proofs.OldFronts.{old-buffer}
 use Rattle.airway_old.proofs.run_large.Statement.{statement}

@@ -1,4 +1,5 @@
--- The proof of the cycle of calls {coarse_correction, cycle}. The measure is twice the levels left, and one less in the correction.
+-- The proof of the cycle of calls {coarse_correction, cycle}. The measure is twice the levels left, and one less in the
+-- correction.
 -- Assumes nothing.
 use mathlib.Core.Path.{refl, _∙_}
 use native.Mathlib.Omega.{arith}

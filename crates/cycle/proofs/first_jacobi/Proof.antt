@@ -1,4 +1,5 @@
--- `cycle::first_jacobi` meets its contract: the kernel promises it for every cast, and so for the one whose labels are at hand. Assumes nothing.
+-- `cycle::first_jacobi` meets its contract: the kernel promises it for every cast, and so for the one whose labels are
+-- at hand. Assumes nothing.
 use borrow.Author.Needs.{needs}
 use Rattle.cycle.proofs.Laws.{air-cells, two-in}
 use Rattle.cycle.proofs.first_jacobi.Statement.{statement}

@@ -1,4 +1,5 @@
--- `cycle::residual` meets its contract: the kernel promises it for every cast, and so for the one whose labels are at hand. Assumes nothing.
+-- `cycle::residual` meets its contract: the kernel promises it for every cast, and so for the one whose labels are at
+-- hand. Assumes nothing.
 use borrow.Author.Needs.{needs}
 use Rattle.grid.proofs.Steps.{plane-fits}
 use Rattle.cycle.proofs.Laws.{air-reads}

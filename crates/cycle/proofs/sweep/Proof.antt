@@ -1,9 +1,10 @@
--- `cycle::sweep` meets its contract, by the branch that is taken: the sweep is promised for every cast, and so for the one whose labels are at hand. Assumes nothing.
+-- `cycle::sweep` meets its contract, by the branch that is taken: the sweep is promised for every cast, and so for the
+-- one whose labels are at hand. Assumes nothing.
 use mathlib.Core.Path.{ap, _∙_}
 use native.Mathlib.Omega.{arith}
 use borrow.Author.Needs.{needs}
 use Rattle.grid.proofs.Steps.{plane-fits}
-use Rattle.method.specs.Levels.{value}
+use Rattle.method.specs.Transfers.{value}
 use Rattle.smooth.proofs.EntryLaws.{level-reads}
 use Rattle.cycle.proofs.Laws.{forward-is, back-is}
 use Rattle.cycle.proofs.sweep.Statement.{statement}

@@ -4,7 +4,7 @@ use mathlib.Core.Path.{_≡_}
 use lib.ListN.{length}
 use Rattle.laws.specs.Binary64.{+0}
 use Rattle.laws.proofs.Loops.{Up}
-use Rattle.method.specs.Levels.{value}
+use Rattle.method.specs.Transfers.{value}
 use Rattle.grid.specs.Entries.{cellsOf}
 use Rattle.cycle.proofs.Laws.{sweeping, turn}
 use Rattle.cycle.proofs.sweep_times.Statement.{statement}

@@ -1,4 +1,5 @@
--- `solve::run` meets its contract: the rounds, and the pressures and the worst cell where they are accepted. Assumes nothing.
+-- `solve::run` meets its contract: the rounds, and the pressures and the worst cell where they are accepted. Assumes
+-- nothing.
 use borrow.Author.Needs.{needs}
 use Rattle.solve.proofs.Working.{running, asked-x, labelled-run, tolerance-run, sought, ran-accepted, ran-unfinished}
 use Rattle.solve.proofs.run.Statement.{statement}

@@ -1,4 +1,5 @@
--- `trial::gather` meets its contract: after i turns the count and the sum are those of the first i cells. Assumes nothing.
+-- `trial::gather` meets its contract: after i turns the count and the sum are those of the first i cells. Assumes
+-- nothing.
 use Prim.Native.Nat.{_≤_, _-_}
 use borrow.Author.Needs.{needs}
 use Rattle.ticks.proofs.Laws.{Gathering}

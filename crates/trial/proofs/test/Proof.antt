@@ -1,4 +1,5 @@
--- `trial::test` meets its contract: no tick before cell c is refused, and the worst among the first c cells is within the tolerance. Assumes nothing.
+-- `trial::test` meets its contract: no tick before cell c is refused, and the worst among the first c cells is within
+-- the tolerance. Assumes nothing.
 use Prim.Native.Nat.{_≤_, _-_}
 use lib.ListN.{length}
 use Rattle.laws.proofs.Loops.{Up}

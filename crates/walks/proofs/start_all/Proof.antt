@@ -1,4 +1,5 @@
--- `walks::start_all` meets its contract: after i turns the openings among the first i cells are in the queue. Assumes nothing.
+-- `walks::start_all` meets its contract: after i turns the openings among the first i cells are in the queue. Assumes
+-- nothing.
 use Rattle.laws.proofs.Loops.{Up}
 use Rattle.walks.proofs.SearchCode.{loops}
 use Prim.Native.Nat.{_≤_, _-_}

@@ -1,6 +1,5 @@
 -- `whole::size32` meets its contract: the size of an i32 is at most 2 ^ 31. Assumes nothing.
 use mathlib.Core.Path.{_≡_, ap, _∙_}
-use Prim.Native.Nat.{_<_, _^_}
 use native.Mathlib.Omega.{arith}
 use borrow.Author.Needs.{needs}
 use lib.IntN.{natAbs}
@@ -12,11 +11,7 @@ wide-requires : tie.Need-wide-requires
 wide-requires c κs = search needs
 
 size-requires : tie.Need-size-requires
-size-requires c κs =
-    let e : c .wide .result ≡ c .before .args .a = search wholes in
-    let h = abs-32 (c .before .args .a) (c .before .fits .a) in
-    let k : natAbs (c .wide .result) < 2 ^ 63 = omega (arith, ap natAbs e) in
-    search wholes
+size-requires c κs = search needs
 
 cast-result : tie.Need-cast-result
 cast-result c =

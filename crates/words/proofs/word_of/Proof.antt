@@ -1,5 +1,6 @@
 -- `words::word_of` meets its contract, by the sign. Assumes nothing.
-use Rattle.words.proofs.WordLaws.{turned-fits, turned-cast, turned-small, plain-cast, word-below, word-above}
+use Rattle.whole.proofs.Signs.{turned-fits}
+use Rattle.words.proofs.WordLaws.{turned-cast, turned-small, plain-cast, word-below, word-above}
 use Rattle.words.proofs.word_of.Statement.{statement}
 use Rattle.words.proofs.word_of.Tie as tie
 

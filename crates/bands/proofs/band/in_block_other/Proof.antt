@@ -1,4 +1,5 @@
--- `bands::band::in_block_other` meets its contract: no hit yet, in the parents before q and in the children before t. Assumes nothing.
+-- `bands::band::in_block_other` meets its contract: no hit yet, in the parents before q and in the children before t.
+-- Assumes nothing.
 use Prim.Native.Nat.{_≤_, _-_}
 use mathlib.Core.Path.{_≡_}
 use mathlib.Core.Bool.{false}

@@ -1,4 +1,5 @@
--- `fields::entries::apply_entry` meets its contract: what is stored is what `applied_entry` ensures of every cast. Assumes nothing.
+-- `fields::entries::apply_entry` meets its contract: what is stored is what `applied_entry` ensures of every cast.
+-- Assumes nothing.
 use native.Mathlib.Omega.{arith}
 use borrow.Author.Needs.{needs}
 use Rattle.smooth.proofs.EntryLaws.{zero-kept}

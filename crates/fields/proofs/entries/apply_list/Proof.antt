@@ -4,7 +4,7 @@ use mathlib.Core.Path.{_≡_}
 use native.Mathlib.Omega.{arith}
 use lib.ListN.{length}
 use Rattle.laws.specs.Binary64.{+0}
-use Rattle.method.specs.Levels.{value}
+use Rattle.method.specs.Transfers.{value}
 use Rattle.smooth.specs.Entries.{Entry}
 use Rattle.smooth.proofs.StencilLaws.{Wrote, writing, wrote-end}
 use Rattle.fields.specs.Entries.{appliedNew}

@@ -1,4 +1,5 @@
--- `rounds::scalars::aim` meets its contract: the kernel promises it for every cast, and so for the one whose labels are at hand. Assumes nothing.
+-- `rounds::scalars::aim` meets its contract: the kernel promises it for every cast, and so for the one whose labels are
+-- at hand. Assumes nothing.
 use borrow.Author.Needs.{needs}
 use Rattle.rounds.proofs.Turns.{air-asked, air-listed}
 use Rattle.rounds.proofs.Calm.{air-in, five-in}

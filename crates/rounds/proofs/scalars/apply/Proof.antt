@@ -1,4 +1,5 @@
--- `rounds::scalars::apply` meets its contract: the kernel promises it for every cast, and so for the one whose labels are at hand. Assumes nothing.
+-- `rounds::scalars::apply` meets its contract: the kernel promises it for every cast, and so for the one whose labels
+-- are at hand. Assumes nothing.
 use borrow.Author.Needs.{needs}
 use Rattle.grid.proofs.Steps.{plane-fits}
 use Rattle.rounds.proofs.Turns.{fit-planned, air-asked, air-listed, zero-read, air-read, five-before, applied-is}

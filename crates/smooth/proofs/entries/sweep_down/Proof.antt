@@ -1,10 +1,11 @@
--- `smooth::entries::sweep_down` meets its contract: with k turns left, what they make of the room is what all make of the first. Assumes nothing.
+-- `smooth::entries::sweep_down` meets its contract: with k turns left, what they make of the room is what all make of
+-- the first. Assumes nothing.
 use Prim.Native.Nat.{_≤_}
 use mathlib.Core.Path.{_≡_}
 use native.Mathlib.Omega.{arith}
 use lib.ListN.{length}
 use Rattle.laws.specs.Binary64.{+0}
-use Rattle.method.specs.Levels.{value}
+use Rattle.method.specs.Transfers.{value}
 use Rattle.smooth.proofs.EntryLaws.{Falling, falling, falling-end}
 use Rattle.smooth.proofs.entries.sweep_down.Statement.{statement}
 use Rattle.smooth.proofs.entries.sweep_down.Tie as tie

@@ -4,7 +4,7 @@ use mathlib.Core.Path.{_≡_}
 use native.Mathlib.Omega.{arith}
 use lib.ListN.{length}
 use Rattle.laws.specs.Binary64.{+0}
-use Rattle.method.specs.Levels.{value}
+use Rattle.method.specs.Transfers.{value}
 use Rattle.smooth.proofs.EntryLaws.{Rising, rising, rising-end}
 use Rattle.smooth.proofs.entries.sweep_up.Statement.{statement}
 use Rattle.smooth.proofs.entries.sweep_up.Tie as tie
