@@ -13,8 +13,7 @@ use Rattle.laws.specs.Text.{text}
 use Rattle.method.specs.declared.Sides.{Sides}
 use Rattle.method.specs.declared.Order.{Order}
 use Rattle.method.specs.declared.Order.the-variants.{Big, Little}
-use Rattle.method.specs.Form.{Line, bad, good, numberLine, orderLine, lines, Lines, wrong, right, more, readLines, orderOf, headerOf, wrongLine, badLine}
-use Rattle.method.specs.Reading.{header}
+use Rattle.method.specs.Form.{Line, bad, good, numberLine, orderLine, lines, Lines, wrong, right, more, readLines, orderOf, headerOf, header, wrongLine, badLine}
 use Rattle.header.specs.Lines.{LineOf, lineOf, taken, ThreeOf, threeOf, taken3, three, HeaderOf, headerIn, wrongIn, startIn, OnFrom, lastFour, withSides}
 use Rattle.header.specs.declared.LineRead.{LineRead}
 use Rattle.header.specs.declared.LineRead.the-variants.{NotOfForm, Value}

@@ -8,8 +8,7 @@ use lib.ListN.{length, drop}
 use Rattle.method.specs.declared.Sides.{Sides}
 use Rattle.method.specs.declared.Found.{Found}
 use Rattle.method.specs.declared.Found.the-variants.{Nowhere, At}
-use Rattle.method.specs.Form.{Line, bad, good, after, numberLine, orderLine, Lines, wrong, right, readLines, more, headerOf, badLine}
-use Rattle.method.specs.Reading.{header}
+use Rattle.method.specs.Form.{Line, bad, good, after, numberLine, orderLine, Lines, wrong, right, readLines, more, headerOf, header, badLine}
 use Rattle.method.specs.Form as form
 use Rattle.header.specs.declared.LineRead.{LineRead}
 use Rattle.header.specs.declared.LineRead.the-variants.{NotOfForm, Value}

@@ -8,7 +8,7 @@ use Rattle.laws.proofs.Table.{Case, AllHold, holds-at}
 use Rattle.method.specs.declared.Settings.{Settings}
 use Rattle.method.specs.declared.Order.the-variants.{Big, Little}
 use Rattle.method.specs.Answers.{passed, verdict, refusal, done}
-use Rattle.method.specs.Reading.{header}
+use Rattle.method.specs.Form.{header}
 use Rattle.method.specs.Solving.{solving}
 use Rattle.method.specs.OldForm.{oldHeader, oldReaderChecks}
 use Rattle.method.specs.Program.{programRoom, programChecks, asked, shown, print, printed, program}

@@ -7,7 +7,7 @@ use lib.ListN.{length}
 use lib.IntN.{ℤ}
 use Rattle.method.specs.declared.Answer.{Answer}
 use Rattle.method.specs.Cast.{cells, sidesFit, settingsFit, labelFault, valueFault}
-use Rattle.method.specs.Form.{wrong, Header, headerOf, badLine, labelsIn, valuesIn, castIn}
+use Rattle.method.specs.Form.{wrong, Header, headerOf, header, badLine, labelsIn, valuesIn, castIn}
 use Rattle.method.specs.Answers.{refusal, done, Check, check, fault, passed, refused, verdict}
 use Rattle.method.specs.Rooms.{filled}
 

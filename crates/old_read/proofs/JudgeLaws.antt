@@ -29,8 +29,7 @@ use Rattle.checks.specs.Faults.{badLabelAt}
 use Rattle.checks.specs.Rulings.{rulingOf, rulingBy, firstOf}
 use Rattle.checks.specs.declared.Ruling.{Ruling}
 use Rattle.checks.specs.declared.Ruling.the-variants.{Refused as Refusedᴿ, Allowed}
-use Rattle.checks.proofs.RuleLaws.{ruling-more, ruling-last, ruling-in, first-assoc, both-allowed, ruled-none}
-use Rattle.theory.proofs.?.{rulingIn}
+use Rattle.checks.proofs.RuleLaws.{ruling-more, ruling-last, rulingIn, ruling-in, first-assoc, both-allowed, ruled-none}
 use Rattle.old_header.specs.OldLines.{oldNamedBy, OldHeaderOf, oldHeaderIn, oldWrongIn, oldStartIn}
 use Rattle.old_header.specs.declared.OldHeader.{OldHeader}
 use Rattle.old_header.specs.declared.OldHeaderRead.{OldHeaderRead}

@@ -7,8 +7,7 @@ use lib.IntN.{ℤ, pos, natAbs}
 use Rattle.laws.specs.Whole.{_-ᶻ_, _*ᶻ_}
 use Rattle.method.specs.declared.Answer.{Answer}
 use Rattle.method.specs.Cast.{labelAt, field}
-use Rattle.method.specs.Reading.{header}
-use Rattle.method.specs.Form.{labelsIn, castIn}
+use Rattle.method.specs.Form.{header, labelsIn, castIn}
 use Rattle.method.specs.Answers.{refusal}
 use Rattle.method.specs.Solving.{Solved, solving}
 use Rattle.method.specs.Reading.{lineCheck, sideCheck, bodyCheck, contentChecks}

@@ -18,8 +18,7 @@ use Rattle.method.specs.declared.Found.{Found}
 use Rattle.method.specs.declared.Found.the-variants.{Nowhere, At}
 use Rattle.method.specs.Cast.{between, cells, sidesFit}
 use Rattle.method.specs.Numbers.{lastDigit, spelled, decimal, digits, isDigit, isNumber, valueOf}
-use Rattle.method.specs.Form.{orderWord, line, headerWritten, Line, bad, good, after, closed, numberLine, orderLine, lines, Lines, wrong, right, more, readLines, headerOf, wrongLine, badLine}
-use Rattle.method.specs.Reading.{header}
+use Rattle.method.specs.Form.{orderWord, line, headerWritten, Line, bad, good, after, closed, numberLine, orderLine, lines, Lines, wrong, right, more, readLines, headerOf, header, wrongLine, badLine}
 use Rattle.method.specs.OldForm.{numberTo}
 use Rattle.method.specs.Answers.{Verdict, refused, verdict}
 use Rattle.method.specs.Reading.{lineCheck, sideCheck, bodyCheck}

@@ -12,8 +12,7 @@ use lib.ListN.{length}
 use Rattle.method.specs.declared.Found.{Found}
 use Rattle.method.specs.declared.Found.the-variants.{Nowhere, At}
 use Rattle.method.specs.Cast.{between, cells, sidesFit}
-use Rattle.method.specs.Form.{Lines, wrong, right, wrongLine, readLines, lines, headerOf, badLine}
-use Rattle.method.specs.Reading.{header}
+use Rattle.method.specs.Form.{Lines, wrong, right, wrongLine, readLines, lines, headerOf, header, badLine}
 use Rattle.method.specs.Answers.{check, fault, passed, refused, verdict, refusal}
 use Rattle.method.specs.Solving.{solving}
 use Rattle.method.specs.Reading.{Reading, named, lineCheck, sideCheck, bodyCheck, roomCheck, contentChecks, readerChecks}

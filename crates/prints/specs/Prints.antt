@@ -6,8 +6,7 @@ use lib.Dec.{ltb}
 use lib.ListN.{length}
 use Rattle.method.specs.declared.Order.the-variants.{Little}
 use Rattle.method.specs.Cast.{cells, sidesFit}
-use Rattle.method.specs.Reading.{header}
-use Rattle.method.specs.Form.{headerWritten}
+use Rattle.method.specs.Form.{header, headerWritten}
 use Rattle.method.specs.OldForm.{oldHeaderWritten}
 use Rattle.method.specs.Program.{programRoom}
 

@@ -18,8 +18,7 @@ use Rattle.method.specs.declared.Answer.{Answer}
 use Rattle.method.specs.declared.Sides.{Sides}
 use Rattle.method.specs.declared.Settings.{Settings}
 use Rattle.method.specs.Cast.{Cast, between, cells, sidesFit}
-use Rattle.method.specs.Form.{headerOf, labelsIn, valuesIn, castIn, valueRead}
-use Rattle.method.specs.Reading.{header}
+use Rattle.method.specs.Form.{headerOf, header, labelsIn, valuesIn, castIn, valueRead}
 use Rattle.method.specs.Answers.{passed, verdict, refusal, done}
 use Rattle.method.specs.Rooms.{filled, byteNeed, floatNeed, wordNeed}
 use Rattle.method.specs.Solving.{Asked, lengthsFit, solving}

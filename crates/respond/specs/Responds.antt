@@ -8,8 +8,7 @@ use lib.ListN.{length, take}
 use Rattle.method.specs.declared.Sides.{Sides}
 use Rattle.method.specs.declared.Settings.{Settings}
 use Rattle.method.specs.Cast.{cells}
-use Rattle.method.specs.Reading.{header}
-use Rattle.method.specs.Form.{valuesIn}
+use Rattle.method.specs.Form.{header, valuesIn}
 use Rattle.method.specs.Answers.{passed, verdict}
 use Rattle.method.specs.Rooms.{byteNeed, floatNeed, wordNeed}
 use Rattle.method.specs.Program.{programChecks, printed}

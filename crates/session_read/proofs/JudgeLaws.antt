@@ -14,8 +14,7 @@ use Rattle.laws.specs.Lists.{tab}
 use Rattle.laws.proofs.Lists.{getD-tab}
 use Rattle.method.specs.declared.Found.the-variants.{Nowhere}
 use Rattle.method.specs.Cast.{cells, sidesFit, settingsFit, labelAt, widest, first, badLabel, badValue}
-use Rattle.method.specs.Reading.{header}
-use Rattle.method.specs.Form.{badLine, labelsIn, valuesIn, castIn}
+use Rattle.method.specs.Form.{header, badLine, labelsIn, valuesIn, castIn}
 use Rattle.method.specs.Form as form
 use Rattle.method.specs.Answers.{fault, verdict}
 use Rattle.method.specs.Reading.{lineCheck, sideCheck, bodyCheck, roomCheck, contentChecks, readerChecks}
@@ -30,8 +29,7 @@ use Rattle.checks.specs.Rulings.{rulingOf, rulingBy, firstOf}
 use Rattle.checks.specs.declared.Ruling.{Ruling}
 use Rattle.checks.specs.declared.Ruling.the-variants.{Refused as Refusedᴿ, Allowed}
 use Rattle.theory.proofs.Verdicts.{fails-at, passes-on, fault-no, no-fault}
-use Rattle.checks.proofs.RuleLaws.{ruling-more, ruling-last, ruling-in, first-assoc, both-allowed, ruled-none}
-use Rattle.theory.proofs.?.{rulingIn}
+use Rattle.checks.proofs.RuleLaws.{ruling-more, ruling-last, rulingIn, ruling-in, first-assoc, both-allowed, ruled-none}
 use Rattle.session_read.proofs.SizeLaws.{cells-few, short-by}
 use Rattle.header.specs.declared.Header.{Header}
 use Rattle.header.specs.declared.HeaderRead.{HeaderRead}

@@ -13,8 +13,7 @@ use Rattle.laws.specs.Lists.{tab}
 use Rattle.method.specs.declared.Answer.{Answer}
 use Rattle.method.specs.declared.Order.the-variants.{Big}
 use Rattle.method.specs.Cast.{cells}
-use Rattle.method.specs.Reading.{header}
-use Rattle.method.specs.Form.{headerOf, labelsIn, valuesIn}
+use Rattle.method.specs.Form.{header, headerOf, labelsIn, valuesIn}
 use Rattle.method.specs.Form as form
 use Rattle.method.specs.Answers.{fault, passed, refused, verdict, refusal, done}
 use Rattle.method.specs.Rooms.{filled}

@@ -14,8 +14,7 @@ use Rattle.method.specs.declared.Found.the-variants.{Nowhere}
 use Rattle.method.specs.declared.Order.the-variants.{Big}
 use Rattle.theory.specs.Sessions.{Bytes}
 use Rattle.theory.specs.Sides.{Fit}
-use Rattle.method.specs.Reading.{header}
-use Rattle.method.specs.Form.{badLine}
+use Rattle.method.specs.Form.{header, badLine}
 use Rattle.method.specs.Answers.{Verdict, passed, refused, verdict, fault, refusal, done}
 use Rattle.method.specs.Reading.{Reading, readerChecks, reading}
 use Rattle.checks.specs.Faults.{badLabelAt}

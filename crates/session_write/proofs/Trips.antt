@@ -13,8 +13,7 @@ use Rattle.method.specs.declared.Sides.{Sides}
 use Rattle.method.specs.declared.Order.{Order}
 use Rattle.method.specs.declared.Settings.{Settings}
 use Rattle.method.specs.Cast.{cells}
-use Rattle.method.specs.Reading.{header}
-use Rattle.method.specs.Form.{labelsIn, valuesIn, castIn, valueRead}
+use Rattle.method.specs.Form.{header, labelsIn, valuesIn, castIn, valueRead}
 use Rattle.method.specs.Answers.{fault}
 use Rattle.method.specs.Rooms.{filled}
 use Rattle.method.specs.Reading.{Reading, lineCheck, sideCheck, bodyCheck, roomCheck, contentChecks, readerChecks, reading, isRead}

@@ -19,8 +19,7 @@ use Rattle.method.specs.declared.Found.the-variants.{Nowhere}
 use Rattle.method.specs.Cast.{between}
 use Rattle.method.specs.OldForm.{numberTo}
 use Rattle.method.specs.Numbers.{decimal, isDigit, digits, isNumber, valueOf}
-use Rattle.method.specs.Form.{Line, bad, good, after, closed, numberLine, orderLine, line, orderWord, orderOf, lines, Lines, wrong, right, more, readLines, Header, headerOf, wrongLine, badLine, headerWritten}
-use Rattle.method.specs.Reading.{header}
+use Rattle.method.specs.Form.{Line, bad, good, after, closed, numberLine, orderLine, line, orderWord, orderOf, lines, Lines, wrong, right, more, readLines, Header, headerOf, header, wrongLine, badLine, headerWritten}
 use Rattle.theory.proofs.Digits.{decimal-number, decimal-stop, value-decimal, digits-digits, digits-front, decimal-value, value-small}
 use Rattle.theory.proofs.Reach.{never}
 

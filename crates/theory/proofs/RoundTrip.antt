@@ -17,8 +17,7 @@ use Rattle.method.specs.declared.Order.{Order}
 use Rattle.method.specs.declared.Found.{Found}
 use Rattle.method.specs.declared.Found.the-variants.{Nowhere, At}
 use Rattle.method.specs.Cast.{Cast, cells, between, sidesFit, settingsFit, labelAt, field, widest, badValue, labelFault, valueFault}
-use Rattle.method.specs.Form.{Header, badLine, valueRead, valueWritten, labelsIn, valuesIn, castIn, headerWritten, written}
-use Rattle.method.specs.Reading.{header}
+use Rattle.method.specs.Form.{Header, header, badLine, valueRead, valueWritten, labelsIn, valuesIn, castIn, headerWritten, written}
 use Rattle.method.specs.Answers.{Check, fault, Verdict, passed, refused, verdict, refusal, done}
 use Rattle.method.specs.Rooms.{filled}
 use Rattle.method.specs.Reading.{Reading, Read, named, lineCheck, sideCheck, bodyCheck, roomCheck, contentChecks, readerChecks, readingBy, reading, isRead, notRead}
