@@ -1198,6 +1198,149 @@ static int run_edges(void)
 }
 
 /* ------------------------------------------------------------------ */
+/* One cast, many sources (document 02, wish 1), for comparing        */
+
+/* What stands at the head of such a call: fourteen numbers of four bytes, most significant first. The last seven are the lengths lent. */
+enum {
+    M_NX, M_NY, M_NZ, M_TOLERANCE, M_LEVELS, M_ROUNDS, M_SETS,
+    M_LABELS, M_VALUES, M_PRESSURES, M_ANSWERS, M_BYTES, M_FLOATS, M_WORDS, MANY_HEAD
+};
+
+enum { FIELDS = 8, MOST_SETS = 64, MOST_SET_CELLS = 65 * MAX_CELLS + 1 };
+
+#define UNANSWERED INT64_C(-4567890123456)  /* what the answers hold before a call */
+
+static const size_t most_many[MANY_HEAD] = {
+    [M_LABELS] = MAX_CELLS + 1, [M_VALUES] = MOST_SET_CELLS, [M_PRESSURES] = MOST_SET_CELLS, [M_ANSWERS] = 1000,
+    [M_BYTES] = 2 * MAX_CELLS + 17, [M_FLOATS] = 8 * MAX_CELLS + 65, [M_WORDS] = 2 * MAX_CELLS + 1,
+};
+
+/* "All fields of each set's answer, in 01's order" */
+static void store_fields(const Answer *answer, int64_t fields[FIELDS])
+{
+    const int64_t all[FIELDS] = {answer->number, answer->place, answer->rounds, answer->worst, answer->worst_cell, answer->worst_value,
+                                   answer->interior, answer->depth};
+    memcpy(fields, all, sizeof all);
+}
+
+static bool many_lengths_fit(const size_t call[MANY_HEAD], size_t cells)
+{
+    return call[M_LABELS] == cells && call[M_VALUES] == call[M_SETS] * cells && call[M_PRESSURES] == call[M_SETS] * cells
+        && call[M_ANSWERS] == call[M_SETS] * FIELDS
+        && call[M_BYTES] >= 2 * cells + 16 && call[M_FLOATS] >= 8 * cells + 64 && call[M_WORDS] >= 2 * cells;
+}
+
+/* One set on the cast as it stands prepared: 5, 8, 9 "for one set, its pressures untouched", or 0. */
+static Answer solve_set(const Session *session, long interior, long depth)
+{
+    for (int cell = 0; cell < session->cells; cell++)
+        if (!value_in_range(session->labels[cell], session->values[cell]))
+            return refusal(5, cell);
+    return run_rounds(session, interior, depth);
+}
+
+/* "Refusals: 1, 2, 3 (also for the number of sets), 4, 6, 7 in that order for the whole call, no answer or pressure changed" */
+static Answer call_many(const size_t call[MANY_HEAD], const unsigned char *labels, const int64_t *values, int64_t *all_pressures, int64_t *answers)
+{
+    static Session session;
+    Header h = {(long)call[M_NX], (long)call[M_NY], (long)call[M_NZ], (long)call[M_TOLERANCE], (long)call[M_LEVELS], (long)call[M_ROUNDS], true};
+    if (!side_in_range(h.nx) || !side_in_range(h.ny) || !side_in_range(h.nz))
+        return refusal(1, 0);
+    keep_header(&h, &session);
+    size_t cells = (size_t)session.cells;
+    if (!many_lengths_fit(call, cells))
+        return refusal(2, 0);
+    if (!settings_in_range(&h) || call[M_SETS] < 1 || call[M_SETS] > MOST_SETS)
+        return refusal(3, 0);
+    for (size_t cell = 0; cell < cells; cell++)
+        if (labels[cell] > WALL)
+            return refusal(4, (long)cell);
+    session.labels = labels;
+    Level *cast = &level[0];
+    make_level(cast, session.nx, session.ny, session.nz, session.labels);
+    long interior = count_air(cast);
+    if (interior == 0)
+        return refusal(6, 0);
+    Walks walks = walk_the_air(cast);
+    if (walks.sealed != OUTSIDE)
+        return refusal(7, walks.sealed);
+    make_coarser_levels((int)session.levels);
+    for (size_t set = 0; set < call[M_SETS]; set++) {
+        memcpy(session.values, values + set * cells, cells * sizeof *values);
+        Answer answer = solve_set(&session, interior, walks.depth);
+        store_fields(&answer, answers + set * FIELDS);
+        if (answer.number == 0)
+            memcpy(all_pressures + set * cells, pressures, cells * sizeof *pressures);
+    }
+    return refusal(0, 0);
+}
+
+/* Whether each set has what a single call gives it. */
+static bool singles_agree(const size_t many[MANY_HEAD], const unsigned char *labels, const int64_t *values, const int64_t *all_pressures, const int64_t *answers)
+{
+    size_t cells = many[M_LABELS];
+    for (size_t set = 0; set < many[M_SETS]; set++) {
+        const size_t call[CALL_HEAD] = {many[M_NX], many[M_NY], many[M_NZ], many[M_TOLERANCE], many[M_LEVELS], many[M_ROUNDS],
+                                        cells, cells, cells, many[M_BYTES], many[M_FLOATS], many[M_WORDS]};
+        Answer answer = call_solver(call, labels, values + set * cells);
+        int64_t fields[FIELDS];
+        store_fields(&answer, fields);
+        if (memcmp(fields, answers + set * FIELDS, sizeof fields) != 0)
+            return false;
+        for (size_t cell = 0; cell < cells; cell++)
+            if (all_pressures[set * cells + cell] != (answer.number == 0 ? pressures[cell] : UNWRITTEN))
+                return false;
+    }
+    return true;
+}
+
+static bool take_many(size_t call[MANY_HEAD], unsigned char *labels, int64_t *values)
+{
+    unsigned char four[4];
+    for (int n = M_LABELS; n < MANY_HEAD; n++)
+        if (call[n] > most_many[n])
+            return false;
+    if (fread(labels, 1, call[M_LABELS], stdin) != call[M_LABELS])
+        return false;
+    for (size_t n = 0; n < call[M_VALUES]; n++) {
+        if (fread(four, 1, 4, stdin) != 4)
+            return false;
+        values[n] = value_of_bytes(four, true);
+    }
+    return true;
+}
+
+static int run_many(void)
+{
+    static unsigned char labels[MAX_CELLS + 1], head[MANY_HEAD][4];
+    static int64_t values[MOST_SET_CELLS], all_pressures[MOST_SET_CELLS], answers[1000];
+    size_t call[MANY_HEAD], got;
+    for (long number = 0; (got = fread(head, 1, sizeof head, stdin)) != 0; number++) {
+        for (int n = 0; n < MANY_HEAD; n++)
+            call[n] = (size_t)head[n][0] << 24 | (size_t)head[n][1] << 16 | (size_t)head[n][2] << 8 | head[n][3];
+        if (got != sizeof head || !take_many(call, labels, values)) {
+            puts("frame=bad");
+            return 0;
+        }
+        for (size_t n = 0; n < call[M_PRESSURES]; n++)
+            all_pressures[n] = UNWRITTEN;
+        for (size_t n = 0; n < call[M_ANSWERS]; n++)
+            answers[n] = UNANSWERED;
+        Answer answer = call_many(call, labels, values, all_pressures, answers);
+        printf("call=%ld\n", number);
+        print_answer(&answer);
+        for (size_t n = 0; n < call[M_ANSWERS]; n++)
+            printf("field=%" PRId64 "\n", answers[n]);
+        for (size_t n = 0; n < call[M_PRESSURES]; n++)
+            printf("pressure=%" PRId64 "\n", all_pressures[n]);
+        if (answer.number == 0)
+            puts(singles_agree(call, labels, values, all_pressures, answers) ? "singles=agree" : "singles=differ");
+        puts("rooms=kept");
+    }
+    return 0;
+}
+
+/* ------------------------------------------------------------------ */
 /* Pieces: parts of the method by themselves, for comparing           */
 
 static void bad_piece(void)
@@ -1518,7 +1661,7 @@ static int run_cycles(void)
 
 typedef struct {
     long room;
-    bool frames, reread, cycles, replay, edges;
+    bool frames, reread, cycles, replay, edges, many;
     const Piece *piece;
 } Options;
 
@@ -1549,6 +1692,8 @@ static bool read_options(int count, char **argument, Options *options)
             options->replay = true;
         } else if (strcmp(argument[n], "--edges") == 0) {
             options->edges = true;
+        } else if (strcmp(argument[n], "--many") == 0) {
+            options->many = true;
         } else if (strcmp(argument[n], "--room") == 0 && n + 1 < count) {
             if (!whole_argument(argument[++n], &options->room))
                 return false;
@@ -1567,7 +1712,7 @@ int main(int count, char **argument)
 {
     Options options = {.room = PROGRAM_ROOM};
     if (!read_options(count, argument, &options)) {
-        fputs("usage: airway [--room N] [--frames] | --piece NAME | --reread | --onecycle | --replay | --edges\n", stderr);
+        fputs("usage: airway [--room N] [--frames] | --piece NAME | --reread | --onecycle | --replay | --edges | --many\n", stderr);
         return 2;
     }
     int status = options.piece != NULL ? run_piece(options.piece)
@@ -1575,6 +1720,7 @@ int main(int count, char **argument)
                : options.cycles ? run_cycles()
                : options.replay ? run_replay()
                : options.edges ? run_edges()
+               : options.many ? run_many()
                : options.frames ? run_frames(options.room)
                : run_session(options.room);
     return fflush(stdout) == 0 && !ferror(stdout) ? status : 1;

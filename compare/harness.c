@@ -2,6 +2,7 @@
  *
  *     harness replay      whole sessions, each behind a line `bytes=N`: the print of the program, with room for the greatest cast
  *     harness edges       direct calls of the solver with any sides, settings and lengths
+ *     harness many        direct calls of the solver of many sets; each set beside a single call
  *     harness reread      reader, writer and walks by themselves, then direct calls at the edges of lengths and ranges
  *     harness old         reader and writer of the old form, with any lengths
  *     harness onecycle    the cycle on many casts, each element of the result by its bits
@@ -343,6 +344,99 @@ static int edges(void) {
         }
         line("call=", number);
         direct_call(head, raw, m);
+    }
+    free(raw);
+    return 0;
+}
+
+/* ---------------------------------------------------------------- many */
+
+enum { MANY_HEAD = 14, FIELDS = 8, MOST_SET_CELLS = 65 * MOST_CELLS + 1 };
+
+#define ANSWER_PATTERN INT64_C(-4567890123456)
+
+static const uint32_t MOST_OF_MANY[MANY_HEAD] = {0, 0, 0, 0, 0, 0, 0, MOST_CELLS + 1, MOST_SET_CELLS, MOST_SET_CELLS, 1000, 2 * MOST_CELLS + 17, 8 * MOST_CELLS + 65, 2 * MOST_CELLS + 1};
+
+/* Whether the set has the very answer and pressures of a single call, in rooms of its own. */
+static bool single_agrees(quetz_task task, const uint8_t *labels, const int32_t *values, size_t n, const int64_t *pressures, const int64_t *fields) {
+    size_t bytes = 2 * n + 16, floats = 8 * n + 64, words = 2 * n;
+    rooms r = {malloc(n * sizeof(int64_t)), calloc(bytes, 1), calloc(floats, sizeof(double)), calloc(words, sizeof(uint32_t)), n, bytes, floats, words};
+    if (r.pressures == NULL || r.bytes == NULL || r.floats == NULL || r.words == NULL) {
+        out_of_memory();
+    }
+    for (size_t i = 0; i < n; i++) {
+        r.pressures[i] = PRESSURE_PATTERN;
+    }
+    quetz_answer a = quetz_solve(task, labels, n, values, n, r.pressures, n, r.bytes, bytes, r.floats, floats, r.words, words);
+    const int64_t own[FIELDS] = {a.number, a.place, a.rounds, a.worst, a.worstcell, a.worstvalue, a.interior, a.depth};
+    bool agrees = memcmp(own, fields, sizeof own) == 0 && memcmp(r.pressures, pressures, n * sizeof(int64_t)) == 0;
+    free(r.pressures);
+    free(r.bytes);
+    free(r.floats);
+    free(r.words);
+    return agrees;
+}
+
+static void many_call(const uint32_t *head, const uint8_t *raw) {
+    size_t n = head[7], values_length = head[8], answers_length = head[10];
+    uint8_t *labels = lend(n);
+    int32_t *values = lend(values_length * sizeof(int32_t));
+    int64_t *answers = lend(answers_length * sizeof(int64_t));
+    memcpy(labels, raw, n);
+    for (size_t i = 0; i < values_length; i++) {
+        values[i] = (int32_t)four_at(raw + n + 4 * i);
+    }
+    for (size_t i = 0; i < answers_length; i++) {
+        answers[i] = ANSWER_PATTERN;
+    }
+    rooms r = lend_rooms(head[9], head[11], head[12], head[13]);
+    quetz_task task = {{head[0], head[1], head[2]}, {head[3], head[4], head[5]}};
+    quetz_answer a = quetz_solve_many(task, head[6], labels, n, values, values_length, r.pressures, r.pressures_length, answers, answers_length,
+                                      r.bytes, r.bytes_length, r.floats, r.floats_length, r.words, r.words_length);
+    answer_lines(a);
+    for (size_t i = 0; i < answers_length; i++) {
+        printf("field=%" PRId64 "\n", answers[i]);
+    }
+    for (size_t i = 0; i < r.pressures_length; i++) {
+        printf("pressure=%" PRId64 "\n", r.pressures[i]);
+    }
+    if (a.number == 0) {
+        bool agree = true;
+        for (uint32_t s = 0; s < head[6]; s++) {
+            agree = agree && single_agrees(task, labels, values + s * n, n, r.pressures + s * n, answers + s * FIELDS);
+        }
+        puts(agree ? "singles=agree" : "singles=differ");
+    }
+    kept_line(rooms_kept(a, n, r));
+}
+
+/* A frame: fourteen numbers of four bytes (sides, settings, the number of sets, and how many labels, values, pressures, answers, bytes, binary64 and
+ * u32 are lent), then the labels, then the values of four bytes, most significant first. */
+static int many(void) {
+    uint8_t bytes[4 * MANY_HEAD], *raw = malloc(MOST_CELLS + 1 + 4 * (size_t)MOST_SET_CELLS);
+    uint32_t head[MANY_HEAD];
+    if (raw == NULL) {
+        out_of_memory();
+    }
+    for (uint64_t number = 0;; number++) {
+        size_t got = fread(bytes, 1, sizeof bytes, stdin);
+        if (got == 0) {
+            break;
+        }
+        bool fits = got == sizeof bytes;
+        for (int k = 0; fits && k < MANY_HEAD; k++) {
+            head[k] = four_at(bytes + 4 * k);
+        }
+        for (int k = 7; fits && k < MANY_HEAD; k++) {
+            fits = head[k] <= MOST_OF_MANY[k];
+        }
+        fits = fits && read_exactly(raw, head[7] + 4 * (size_t)head[8]);
+        if (!fits) {
+            bad_frame();
+            break;
+        }
+        line("call=", number);
+        many_call(head, raw);
     }
     free(raw);
     return 0;
@@ -702,13 +796,13 @@ static int layout(void) {
 }
 
 int main(int count, char **words) {
-    static const struct { const char *name; int (*run)(void); } RUNS[] = {{"replay", replay}, {"edges", edges}, {"reread", reread}, {"old", old}, {"onecycle", onecycle}, {"ticks", ticks}, {"layout", layout}};
+    static const struct { const char *name; int (*run)(void); } RUNS[] = {{"replay", replay}, {"edges", edges}, {"many", many}, {"reread", reread}, {"old", old}, {"onecycle", onecycle}, {"ticks", ticks}, {"layout", layout}};
     exact = getenv("QUETZ_EXACT") != NULL;
     for (size_t k = 0; count == 2 && k < sizeof RUNS / sizeof RUNS[0]; k++) {
         if (strcmp(words[1], RUNS[k].name) == 0) {
             return RUNS[k].run();
         }
     }
-    fputs("usage: harness replay | edges | reread | old | onecycle | ticks | layout\n", stderr);
+    fputs("usage: harness replay | edges | many | reread | old | onecycle | ticks | layout\n", stderr);
     return 2;
 }

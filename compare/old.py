@@ -1,8 +1,9 @@
 #!/usr/bin/env python3
 """Reader and writer of the old session form, through the library and by the separate implementation compare/old_form.c, on generated calls, sound
-and damaged, also in several ways at once: byte for byte.
+and damaged, also in several ways at once: byte for byte. Then the programs behind ./airway --old and --renew, on such sessions and on greater ones, one a run:
+what they print and write must be what the separate implementations make of the session, read by old_form.c and solved by airway.c.
 
-old.py --folder FOLDER [--seed S] [--count N]     (FOLDER: where the separate implementation is built)"""
+old.py --folder FOLDER [--seed S] [--count N] [--runs R]     (FOLDER: where the separate implementations are built)"""
 import argparse
 import os
 import random
@@ -11,6 +12,8 @@ import subprocess
 import sys
 
 sys.dont_write_bytecode = True
+import example
+import generate
 import programs
 
 MOST = 1000
@@ -63,8 +66,8 @@ def settings(pick, sound):
     return pick.choice([[1000001, 1, 0], [0, 0, 0], [0, 7, 0], [0, 1, 1001], [2**32 - 1] * 3])
 
 
-def reader(pick):
-    """A call of the reader: in half of them up to three faults."""
+def session(pick):
+    """Settings, room and an old session: in half of them up to three faults."""
     three, u, labels, numbers = cast(pick)
     n = len(labels)
     words = [str(s) for s in three] + [str(u)]
@@ -92,8 +95,15 @@ def reader(pick):
         body = pick.choice([body[:-1], body + b"\0", b"", body + body])
     if "room" in faults:
         room = max(0, n - pick.randint(1, 2))
-    session = "".join(lines).encode() + body
-    return frame(b"R" + struct.pack(">4I", *settings(pick, "settings" not in faults), room) + session)
+    return settings(pick, "settings" not in faults), room, "".join(lines).encode() + body
+
+
+def call(passed, room, whole):
+    return frame(b"R" + struct.pack(">4I", *passed, room) + whole)
+
+
+def reader(pick):
+    return call(*session(pick))
 
 
 def writer(pick):
@@ -129,11 +139,78 @@ def writer(pick):
     return frame(b"W" + head + bytes(labels) + struct.pack(f">{len(values)}i", *values))
 
 
+def great(pick):
+    """A sound old session with more cells than the first program has room for, and what it names."""
+    three = pick.choice([[32, 32, 32], [20, 11, 7], [1, 32, 32], [17, 16, 5]])
+    n = three[0] * three[1] * three[2]
+    u = unit(pick)
+    labels = [1] + [pick.choice(kinds) for kinds in [pick.choice([[0, 0, 0, 2], [0] * 50 + [1]])] for _ in range(n - 1)]
+    values = [u * stored(pick, label, u) for label in labels]
+    head = f"size={three[0]}x{three[1]}x{three[2]}\nunit={u}\n".encode()
+    return head + b"".join(struct.pack(">h", v // u) for v in values) + bytes(labels), three, labels, values
+
+
+def header_lines(order, passed):
+    """The caller's order and settings as the programs take them."""
+    return "nx=1\nny=1\nnz=1\norder={}\ntolerance={}\nlevels={}\nrounds={}\n".format(order, *passed)
+
+
+def known(block):
+    """What old_form.c says of a session: answer and place; sides, labels and values."""
+    field = dict(part.split("=", 1) for part in block.split("\n") if "=" in part)
+    labels = list(bytes.fromhex(field["labels"]))
+    values = [struct.unpack(">i", bytes.fromhex(field["values"][8 * c:8 * c + 8]))[0] for c in range(len(labels))]
+    return int(field["answer"]), int(field["place"]), [int(field[name]) for name in ("nx", "ny", "nz")], labels, values
+
+
+def runs(pick, count, folder):
+    """For each run: settings, order, the old session, its print and the same session in the new form (None where it is refused)."""
+    some = [(passed, whole) for passed, _, whole in (session(pick) for _ in range(count)) if max(passed) < 10**7]
+    told = programs.run([os.path.join(folder, "old_form")], b"".join(call(passed, MOST + 100, whole) for passed, whole in some)).split("call=")[1:]
+    told = [known(block) for block in told]
+    for _ in range(max(4, count // 20)):
+        whole, three, labels, values = great(pick)
+        some.append(([6, pick.randint(1, 6), 40], whole))
+        told.append((0, 0, three, labels, values))
+    # one byte too many, a megabyte too many, and an input of the new form
+    whole, three, labels, values = great(pick)
+    for more in (b"\0", pick.randbytes(1_000_000)):
+        some.append(([6, 2, 40], whole + more))
+        told.append((11, 0, three, labels, values))
+    some.append(([6, 2, 40], generate.session_bytes(3, 1, 1, "big", 0, 1, 5, [1, 0, 1], [10, 0, 20])))
+    told.append((10, 1, [0, 0, 0], [], []))
+    for (passed, whole), (number, place, three, labels, values) in zip(some, told, strict=True):
+        order = pick.choice(["big", "little"])
+        if number:
+            yield passed, order, whole, example.refused(number, place), None
+            continue
+        anew = generate.session_bytes(*three, order, *passed, labels, values)
+        yield passed, order, whole, programs.run([os.path.join(folder, "airway"), "--room", "32768"], anew), anew
+
+
+def compare_programs(pick, count, folder):
+    """How many runs of the two programs there were, and how many of them differ."""
+    done = wrong = 0
+    for passed, order, whole, print_due, anew in runs(pick, count, folder):
+        lines = header_lines(order, passed)
+        done += 1
+        ours = subprocess.run(programs.command("airway_old") + [lines], input=whole, stdout=subprocess.PIPE, check=True).stdout.decode("ascii")
+        if ours != print_due:
+            wrong += 1
+            print(f"old program, run {done}: {programs.first_difference(ours, print_due)}")
+        new = subprocess.run(programs.command("airway_renew") + [lines], input=whole, stdout=subprocess.PIPE, stderr=subprocess.PIPE, check=True)
+        if (new.stdout, new.stderr.decode("ascii")) != ((anew, "") if anew is not None else (b"", print_due)):
+            wrong += 1
+            print(f"renewed, run {done}: {len(new.stdout)} bytes and on standard error {new.stderr[:60]}, due {0 if anew is None else len(anew)} bytes")
+    return done, wrong
+
+
 def main():
     parser = argparse.ArgumentParser(description="The old session form, compared.")
     parser.add_argument("--folder", required=True)
     parser.add_argument("--seed", default="1")
     parser.add_argument("--count", type=int, default=4000)
+    parser.add_argument("--runs", type=int, default=150)
     options = parser.parse_args()
     program = build(options.folder)
     pick = random.Random("old " + options.seed)
@@ -157,7 +234,9 @@ def main():
         print(f"old: the calls hardly reach the answers {missing}")
         return 1
     print(f"old: {seen} calls agree, by answer {dict(sorted(numbers.items()))}, seed {options.seed}")
-    return 0
+    done, wrong = compare_programs(random.Random("old programs " + options.seed), options.runs, options.folder)
+    print(f"old programs: {done} sessions each, {wrong} differ")
+    return 1 if wrong else 0
 
 
 if __name__ == "__main__":

@@ -82,11 +82,9 @@ def main():
     if answer.number == 0:
         cells = session.sides.nx * session.sides.ny * session.sides.nz
         answer, pressures = solve(made, session.sides, session.settings, data[session.start:session.start + cells], values[:cells])
-    for name, _ in Answer._fields_:
-        print(f"{name if name != 'number' else 'answer'}={getattr(answer, name)}")
-    if answer.number == 0:
-        for pressure in pressures:
-            print(f"cell={pressure}")
+    lines = [f"{name if name != 'number' else 'answer'}={getattr(answer, name)}\n" for name, _ in Answer._fields_]
+    lines += [f"cell={pressure}\n" for pressure in pressures if answer.number == 0]
+    sys.stdout.write("".join(lines))
     return 0
 
 

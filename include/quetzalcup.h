@@ -82,6 +82,26 @@ quetz_answer quetz_solve(quetz_task task,
                          double *floats, size_t floats_length,
                          uint32_t *words, size_t words_length);
 
+/* How many signed 64-bit numbers an answer has as its fields: number, place, rounds, worst, worstcell, worstvalue,
+ * interior, depth, in this order. */
+#define QUETZ_FIELDS 8
+
+/* Solves one cast with many sets of values, 1 to 64, laid end to end: set s has the cells' values from values + s * cells on, its
+ * pressures from pressures + s * cells on, and its answer's fields from answers + s * QUETZ_FIELDS on. The labels are checked
+ * and prepared once. values and pressures have exactly sets * cells elements, answers exactly sets * QUETZ_FIELDS; the rooms
+ * are those of one set. Checks 1, 2, 3 (also the number of sets), 4, 6, 7 in that order for the whole call; then no answer
+ * and no pressure is changed, and the rooms are left as by quetz_solve. Past 7 the answer is 0 with its other fields 0, and
+ * each set has exactly what quetz_solve would give it: 5, 8 or 9 with its pressures as they were, or 0. Look at each set's
+ * own number. */
+quetz_answer quetz_solve_many(quetz_task task, uint32_t sets,
+                              const uint8_t *labels, size_t labels_length,
+                              const int32_t *values, size_t values_length,
+                              int64_t *pressures, size_t pressures_length,
+                              int64_t *answers, size_t answers_length,
+                              uint8_t *bytes, size_t bytes_length,
+                              double *floats, size_t floats_length,
+                              uint32_t *words, size_t words_length);
+
 /* Reads a session: header and label part are handed back, the values stored in the lent slice, which is at least as long as
  * there are cells; beyond them it stays as it was. Checks 10, 1, 11, 2, 3, 4, 5. A refusal stores nothing. */
 quetz_session quetz_read(const uint8_t *session, size_t session_length,

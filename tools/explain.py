@@ -1,5 +1,7 @@
 #!/usr/bin/env python3
-"""The answer in words: explain.py PRINT SESSION, where PRINT is what ./airway printed of SESSION. `./airway --explain` runs it."""
+"""The answer in words: explain.py PRINT SESSION [new|old], where PRINT is what ./airway printed of SESSION, of the new form or the old one.
+`./airway --explain` runs it."""
+import re
 import sys
 
 sys.dont_write_bytecode = True
@@ -21,6 +23,16 @@ LINES = {
     11: "the body is not 5 bytes a cell{why}.",
 }
 
+# what is said otherwise of the old form, whose settings the caller passed
+OLD = {
+    2: "the cast has more cells than there is room for.",
+    3: "the unit is not 1 to 1,000, or a setting that you passed is out of range: tolerance 0 to 1,000,000, levels 1 to 6, rounds 0 to 1,000.",
+    5: "cell {cell} has a value, its number times the unit, out of its label's range: a level within ±1,000,000, a source within ±1,000, 0 at a wall.",
+    10: "line {place} is not of the old form, which begins size=AxBxC, then unit=U{why}.",
+    11: "the body is not 3 bytes a cell.",
+}
+OLD_SIZE = re.compile(rb"size=(\d{1,7})x(\d{1,7})x(\d{1,7})\n")
+
 
 def why(whole):
     """What the form's reader finds, as a clause; nothing where it finds nothing."""
@@ -31,29 +43,37 @@ def why(whole):
     return ""
 
 
-def sides(whole):
+def why_old(whole):
+    return ": this is a session of the new form, which ./airway answers without --old" if whole.startswith(b"nx=") else ""
+
+
+def sides(whole, old):
+    if old:
+        size = OLD_SIZE.match(whole)
+        return tuple(int(part) for part in size.groups()) if size else None
     try:
         return form.sides_of(form.header_of(whole)[0])
     except form.Fault:
         return None
 
 
-def explained(fields, whole):
+def explained(fields, whole, old=False):
     number, place = fields["answer"], fields["place"]
-    named = sides(whole)
+    named = sides(whole, old)
     cell = form.spoken(named, place) if number in form.AT_CELL and named is not None else str(place)
-    said = LINES.get(number, "docs/ANSWERS.md says what it means.")
-    text = said.format(**dict(fields, cell=cell, at=form.spoken(named, fields["worstcell"]) if number == 0 else "", bound=form.bound(fields), why=why(whole) if number in (10, 11) else ""))
+    said = OLD[number] if old and number in OLD else LINES.get(number, "docs/ANSWERS.md says what it means.")
+    clause = "" if number not in (10, 11) else why_old(whole) if old else why(whole)
+    text = said.format(**dict(fields, cell=cell, at=form.spoken(named, fields["worstcell"]) if number == 0 else "", bound=form.bound(fields), why=clause))
     return f"answer={number}: {text}"
 
 
 def main():
-    if len(sys.argv) != 3:
+    if len(sys.argv) not in (3, 4) or sys.argv[3:] not in ([], ["new"], ["old"]):
         print(__doc__, file=sys.stderr)
         return 2
     try:
         fields, _ = form.parse_print(form.read_file(sys.argv[1]))
-        print(explained(fields, form.read_file(sys.argv[2])), file=sys.stderr)
+        print(explained(fields, form.read_file(sys.argv[2]), sys.argv[3:] == ["old"]), file=sys.stderr)
     except form.Fault as fault:
         print(f"explain: {fault}", file=sys.stderr)
         return 1

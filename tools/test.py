@@ -1,5 +1,5 @@
 #!/usr/bin/env python3
-"""Tests of the tools and of the script ./airway: python3 tools/test.py [-v]. Needs the built programs airway and airway_large."""
+"""Tests of the tools and of the script ./airway: python3 tools/test.py [-v]. Needs the built programs airway, airway_large, airway_old and airway_renew."""
 import csv
 import io
 import os
@@ -344,6 +344,54 @@ class Script(Case):
         done = self.run_script("--help")
         self.assertEqual((done.returncode, done.stderr), (0, b""))
         self.assertTrue(done.stdout.startswith(b"Usage: ./airway"))
+
+    # ---- the old form
+
+    def old(self, unit=b"10", body=b"\0\1\0\0\0\2\1\0\1"):
+        """Document 01's example in the old form, or a damaged one, as a file."""
+        return self.file("old", b"size=3x1x1\nunit=" + unit + b"\n" + body)
+
+    def on(self, path, *words, **how):
+        with open(path, "rb") as given:
+            return self.run_script(*words, stdin=given, **how)
+
+    def test_old_is_answered(self):
+        done = self.on(self.old(), "--old", "0", "1", "5")
+        self.assertEqual((done.returncode, done.stderr), (0, b""))
+        self.assertEqual(done.stdout, self.on(EXAMPLE).stdout)
+        for words, number in ((("0", "7", "5"), 3), (("9999999", "1", "5"), 3), (("0", "1", "0"), 8)):
+            done = self.on(self.old(), "--old", *words)
+            self.assertEqual((done.returncode, done.stdout.split(b"\n")[0]), (0, b"answer=%d" % number))
+        self.assertEqual(self.on(EXAMPLE, "--old", "0", "1", "5").stdout[:18], b"answer=10\nplace=1\n")
+        self.assertEqual(self.on(self.old(unit=b"01"), "--old", "0", "1", "5").stdout[:18], b"answer=10\nplace=2\n")
+
+    def test_old_is_explained(self):
+        done = self.on(EXAMPLE, "--explain", "--old", "0", "1", "5")
+        self.assertEqual((done.returncode, done.stdout[:9]), (0, b"answer=10"))
+        self.assertIn("session of the new form", done.stderr.decode())
+        done = self.on(self.old(body=b"\0\1\0\0\0\2\1\0\7"), "--old", "0", "1", "5", "--explain")
+        self.assertIn("cell 2 (2,0,0) has a label above 2", done.stderr.decode())
+
+    def test_old_is_renewed(self):
+        done = self.on(self.old(), "--renew", "big", "0", "1", "5")
+        self.assertEqual((done.returncode, done.stdout, done.stderr), (0, content(EXAMPLE), b""))
+        little = form.read(content(EXAMPLE))
+        little.order = "little"
+        self.assertEqual(self.on(self.old(), "--renew", "little", "0", "1", "5").stdout, little.bytes())
+        for path, words, number in ((self.old(), ("big", "0", "7", "5"), 3), (EXAMPLE, ("big", "0", "1", "5"), 10)):
+            done = self.on(path, "--renew", *words)
+            self.assertEqual((done.returncode, done.stdout, done.stderr.split(b"\n")[0]), (3, b"", b"answer=%d" % number))
+        with open("/dev/full", "wb") as full:
+            done = self.on(self.old(), "--renew", "big", "0", "1", "5", stdout=full)
+            self.assertEqual(done.returncode, 1)
+            self.assertIn(b"could not be written", done.stderr)
+
+    def test_old_usage(self):
+        for words in (["--old"], ["--old", "0", "1"], ["--old", "00", "1", "5"], ["--old", "0", "-1", "5"], ["--old", "0", "1", "12345678"], ["--old", "0", "1", "5\n"], ["--old", "", "1", "5"],
+                      ["--renew", "0", "1", "5"], ["--renew", "Big", "0", "1", "5"], ["--renew", "big", "0", "1", "5", "--explain"], ["--old", "0", "1", "5", "--large"]):
+            done = self.run_script(*words)
+            self.assertEqual((done.returncode, done.stdout), (2, b""), words)
+            self.assertIn(b"Usage: ./airway", done.stderr)
 
     def test_failed_writes(self):
         with open(THROAT, "rb") as given, open("/dev/full", "wb") as full:

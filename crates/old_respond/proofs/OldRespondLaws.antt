@@ -44,7 +44,7 @@ as-printed : (room : ℕ) (t : Settings) (bs : List ℕ) (ps : List ℤ) (x w u 
     → PutShort (printRoom room) (oldPrinted room t bs) w 0 u j
 as-printed room t bs ps x w u j e l p = record { puts = rw e (p .puts); short = omega (arith, p .short) }
 
-reading-refused : (q : OldReading) (num place : ℕ) → verdict oldReaderChecks q ≡ refused num place → oldReading q ≡ oldNotRead q (refusal num place)
+pub reading-refused : (q : OldReading) (num place : ℕ) → verdict oldReaderChecks q ≡ refused num place → oldReading q ≡ oldNotRead q (refusal num place)
 unfolding oldReading
 reading-refused q num place e = rw (oldReading, e)
 

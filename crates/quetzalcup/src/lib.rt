@@ -3,6 +3,7 @@
 ghost use mathlib.Core.Path.{_≡_};
 ghost use Rattle.method.specs.Rooms.{byteNeed, floatNeed, wordNeed};
 ghost use Rattle.solve.specs.Solve.{asked, SolveOf};
+ghost use Rattle.many.specs.ManySolve.{askedMany, SolveManyOf};
 ghost use Rattle.old_read.specs.OldReads.{OldReadOf};
 ghost use Rattle.old_write.specs.OldWrites.{OldWriteOf};
 ghost use Rattle.quetzalcup.specs.Face.{needBy, orderNumber, ReadBack, WrittenBy, unordered};
@@ -78,6 +79,37 @@ pub extern "C" fn quetz_solve(
         values,
         settings,
         pressures,
+        bytes,
+        floats,
+        words,
+    )
+}
+
+// Solves one cast with many sets.
+#[no_mangle]
+pub extern "C" fn quetz_solve_many(
+    task: Task,
+    sets: u32,
+    labels: &[u8],
+    values: &[i32],
+    pressures: &mut [i64],
+    answers: &mut [i64],
+    bytes: &mut [u8],
+    floats: &mut [f64],
+    words: &mut [u32],
+) -> Answer
+    ensures { λ r. ⌜ SolveManyOf (askedMany (task .sides) (now (labels .entry)) (task .settings) sets (now (values .entry)) (now (pressures .entry)) (now (answers .entry)) (now (bytes .entry)) (now (floats .entry)) (now (words .entry))) r (now (pressures .exit)) (now (answers .exit)) (now (bytes .exit)) (now (floats .exit)) (now (words .exit)) ⌝ }
+{
+    let sides = task.sides;
+    let settings = task.settings;
+    many::solve_many(
+        sides,
+        labels,
+        settings,
+        sets,
+        values,
+        pressures,
+        answers,
         bytes,
         floats,
         words,

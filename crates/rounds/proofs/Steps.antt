@@ -3,27 +3,14 @@ use Prim.Native.Nat.{ℕ, zero, suc}
 use mathlib.Core.Path.{_≡_, refl, sym, ap, _∙_}
 use mathlib.Core.Bool.{Bool, true, false, _&&_, cond}
 use borrow.Author.Needs.{needs}
-use lib.Ieee.{Float, nan, inf, fin, lt}
+use lib.Ieee.{Float, lt}
 use Rattle.laws.specs.Binary64.{_⊘_, +0}
 use Rattle.method.specs.declared.Scalars.{Scalars}
 use Rattle.method.specs.declared.Step.{Step}
 use Rattle.method.specs.declared.Step.the-variants.{Go, Stalled}
 use Rattle.method.specs.Rounds.{finite, usable, step, betaOf}
 
--- above minus infinity, a number is finite where it is below infinity
-pub finite-high : (x : Float) → lt (inf true) x ≡ true → lt x (inf false) ≡ finite x
-unfolding finite lt
-finite-high nan h = refl
-finite-high (inf true) h = sym h
-finite-high (inf false) h = refl
-finite-high (fin s m e) h = refl
-
-pub finite-low : (x : Float) → lt (inf true) x ≡ false → false ≡ finite x
-unfolding finite lt
-finite-low nan h = refl
-finite-low (inf s) h = refl
-finite-low (fin s m e) h = sym h
-
+-- usable, by whether it is finite
 module _ (x : Float) (b : Bool) (e : b ≡ finite x) where
   pub usable-finite : b ≡ true → lt +0 x ≡ usable x
   unfolding usable
@@ -63,4 +50,4 @@ unfolding betaOf
 beta-some zero new old h = absurd (h refl)
 beta-some (suc k) new old h = refl
 
-pub ruleset steps = (needs, finite-high, finite-low, usable-finite, usable-none, step-rho, step-sigma, step-alpha, step-go, beta-none, beta-some)
+pub ruleset steps = (needs, usable-finite, usable-none, step-rho, step-sigma, step-alpha, step-go, beta-none, beta-some)

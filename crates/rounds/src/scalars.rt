@@ -4,23 +4,16 @@ ghost use Prim.Native.Nat.{_+_, _*_, _≤_};
 ghost use lib.ListN.{length, take, drop};
 ghost use Rattle.method.specs.Cast.{cells};
 ghost use Rattle.method.specs.Transfers.{value};
-ghost use Rattle.method.specs.Rounds.{dot, betaOf, finite, usable, step};
+ghost use Rattle.method.specs.Rounds.{dot, betaOf, usable, step};
 ghost use Rattle.theory.specs.Quiet.{Quiet};
 ghost use Rattle.fields.specs.Fields.{Held, p-of, z-of, r-of};
 ghost use Rattle.fields.specs.Entries.{Aimed};
 ghost use Rattle.rounds.specs.Rounds.{below, planSides, planLabels, Prepared, Planned, Calm, Drawn, Rho, Applied, Sigma, Scaled};
 use crate::Plan;
+use fields::entries::is_finite;
 use method::Scalars;
 use method::Sides;
 use method::Step;
-
-// Whether a number is neither infinite nor a NaN.
-fn is_finite(x: f64) -> bool
-    ensures { λ r. ⌜ r ≡ finite x ⌝ }
-{
-    let top = 1.0 / 0.0;
-    if -top < x { x < top } else { false }
-}
 
 // Whether a number is finite and above 0.
 fn is_usable(x: f64) -> bool

@@ -1,0 +1,2 @@
+-- Laws that the proof of `refuse` cites.
+pub mod Laws

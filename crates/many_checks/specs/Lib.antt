@@ -1,0 +1,3 @@
+-- What the contracts of this crate cite, beside the meaning in method.
+pub mod ManyRulings
+pub mod ManyAnswered
