@@ -1,6 +1,8 @@
-// An old session answered directly (document 02, wish 2): the session on standard input, the caller's settings as the one argument, in the lines of a new session's header
-// (sides in range and an order stand in it too, and count for nothing); the answer on standard output, as document 01's program prints it, with rooms for 32,768 cells.
-// An input may have any length: its first 98,347 bytes decide what is printed (`old-front-prints`, crates/prints), so no more are read.
+// An old session answered directly (document 02, wish 2): the session on standard input, the caller's settings as the
+// one argument, in the lines of a new session's header (sides in range and an order stand in it too, and count for
+// nothing); the answer on standard output, as document 01's program prints it, with rooms for 32,768 cells.
+// An input may have any length: its first 98,347 bytes decide what is printed (`old-front-prints`, crates/prints), so
+// no more are read.
 use header::HeaderRead;
 use header::read_header;
 use libc::STDERR_FILENO;
@@ -22,7 +24,8 @@ const BUFFER: usize = 3 * LIMIT + 43;
 
 const PRINT: usize = 26 * LIMIT + 256;
 
-// The answer to the session whose front was read into the buffer is put at the front of the output, and its length comes back.
+// The answer to the session whose front was read into the buffer is put at the front of the output, and its length
+// comes back.
 fn answer(
     settings: Settings,
     buffer: &[u8],

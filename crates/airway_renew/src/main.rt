@@ -1,6 +1,8 @@
-// An old session in the new form (document 02, wish 2): the old session on standard input; the caller's order and settings as the one argument, in the lines of a new
-// session's header (sides in range stand in it too, and count for nothing); the new session on standard output, or on a refusal nothing there and the answer's lines on
-// standard error. There is room for 32,768 cells. An input may have any length: its first 98,347 bytes decide (`old-front-renews`, crates/prints), so no more are read.
+// An old session in the new form (document 02, wish 2): the old session on standard input; the caller's order and
+// settings as the one argument, in the lines of a new session's header (sides in range stand in it too, and count for
+// nothing); the new session on standard output, or on a refusal nothing there and the answer's lines on standard error.
+// There is room for 32,768 cells. An input may have any length: its first 98,347 bytes decide (`old-front-renews`,
+// crates/prints), so no more are read.
 use header::HeaderRead;
 use header::read_header;
 use libc::STDERR_FILENO;
@@ -25,7 +27,8 @@ const BUFFER: usize = 3 * LIMIT + 43;
 
 const SESSION: usize = 5 * LIMIT + 95;
 
-// The session whose front was read into the buffer is put in the new form at the front of the output; its answer and its length come back.
+// The session whose front was read into the buffer is put in the new form at the front of the output; its answer and
+// its length come back.
 fn answer(
     order: Order,
     settings: Settings,

@@ -1,4 +1,5 @@
--- Laws of an old session in the new form: the reader's refusal; what it accepts the writer does not refuse, and has room for. Assumes nothing.
+-- Laws of an old session in the new form: the reader's refusal; what it accepts the writer does not refuse, and has
+-- room for. Assumes nothing.
 use mathlib.Core.Path.{_≡_, refl, sym, ap, ap₂, _∙_, subst}
 use mathlib.Core.Bool.{Bool, true, false, not, _&&_, false≢true}
 use mathlib.Core.List.{List, [], _++_}

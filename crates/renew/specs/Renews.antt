@@ -10,7 +10,8 @@ use Rattle.method.specs.OldProgram.{renewal}
 use Rattle.prints.specs.Prints.{largeRoom, oldBuffer}
 use Rattle.session_write.specs.declared.Written.{Written}
 
--- THE PROMISE of `renew`: the answer, the number of bytes and the final output are those of method's `renewal`, with room for so many cells
+-- THE PROMISE of `renew`: the answer, the number of bytes and the final output are those of method's `renewal`, with
+-- room for so many cells
 pub record RenewOf (room : ℕ) (o : Order) (t : Settings) (bs old : List ℕ) (r : Written) (new : List ℕ) : Type 0 where
   pub answer : r .answer ≡ renewal room o t bs .answer
   pub count : r .count ≡ length (renewal room o t bs .bytes)

@@ -31,7 +31,8 @@ fn write_new(
     write(sides, order, settings, labels, &values[..n], output)
 }
 
-// Writes an old session in the new form at the front of the output, and hands back the reader's answer and how many bytes were written, 0 on a refusal.
+// Writes an old session in the new form at the front of the output, and hands back the reader's answer and how many
+// bytes were written, 0 on a refusal.
 // There is room for as many cells as there are values, which are scratch.
 pub fn renew(
     order: Order,

@@ -1,4 +1,5 @@
--- `airway_old::answer` meets its contract: what `respond_old` puts, with the room of the greatest casts. Assumes nothing.
+-- `airway_old::answer` meets its contract: what `respond_old` puts, with the room of the greatest casts. Assumes
+-- nothing.
 use borrow.Author.Needs.{needs}
 use Rattle.respond.proofs.FrontLaws.{part-long, at-limit}
 use Rattle.old_respond.proofs.OldFrontLaws.{old-front-put}

@@ -1,4 +1,5 @@
--- `airway_old::run_large` meets its contract: the arrays' own lengths are the buffer and the rooms for the greatest casts. Assumes nothing.
+-- `airway_old::run_large` meets its contract: the arrays' own lengths are the buffer and the rooms for the greatest
+-- casts. Assumes nothing.
 use native.Mathlib.Omega.{arith}
 use borrow.Author.Needs.{needs}
 use Rattle.method.specs.Rooms.{byteNeed, floatNeed, wordNeed}

@@ -1,4 +1,5 @@
--- `airway_renew::run` meets its contract: what was read is put in the new form, and just that is written. Assumes nothing.
+-- `airway_renew::run` meets its contract: what was read is put in the new form, and just that is written. Assumes
+-- nothing.
 use borrow.Author.Needs.{needs}
 use Rattle.respond.proofs.FrontLaws.{part-long}
 use Rattle.airway_renew.proofs.run.Statement.{statement}

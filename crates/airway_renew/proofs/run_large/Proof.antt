@@ -1,4 +1,5 @@
--- `airway_renew::run_large` meets its contract: the arrays' own lengths are the buffer and the rooms for the greatest casts. Assumes nothing.
+-- `airway_renew::run_large` meets its contract: the arrays' own lengths are the buffer and the rooms for the greatest
+-- casts. Assumes nothing.
 use native.Mathlib.Omega.{arith}
 use borrow.Author.Needs.{needs}
 use Rattle.prints.specs.Prints.{largeRoom}
