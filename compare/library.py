@@ -125,7 +125,7 @@ static void *run(void *own) {
     uint8_t *bytes = malloc(b);
     double *floats = malloc(f * sizeof *floats);
     uint32_t *words = malloc(w * sizeof *words);
-    quetz_answer a = {99, 0, 0, 0, 0, 0};
+    quetz_answer a = {99, 0, 0, 0, 0, 0, 0, 0};
     for (int k = 0; k < 20; k++) {
         a = quetz_solve(task, labels, CELLS, values, CELLS, own, CELLS, bytes, b, floats, f, words, w);
     }

@@ -118,7 +118,7 @@ def answer_traits(number, rounds, depth):
 
 def traits(whole, block):
     """What a session and its print stand for."""
-    fields = dict(line.split("=") for line in block[:6])
+    fields = dict(line.split("=") for line in block[:8])
     number = int(fields["answer"])
     yield from answer_traits(number, int(fields["rounds"]), int(fields["depth"]))
     if number not in (0, 6, 7, 8, 9):
@@ -260,7 +260,7 @@ def measure(options):
             if ours != theirs:
                 print(f"replay: differs {programs.first_difference(ours, theirs)}")
                 return 1
-            fields = dict(line.split("=") for line in blocks_of(ours)[0][:6])
+            fields = dict(line.split("=") for line in blocks_of(ours)[0][:8])
             took = session_times(commands, whole, options.runs)
             print(f"| {name} {side}×{side}×{side} | {fields['interior']} | {fields['depth']} | {fields['answer']} | {fields['rounds']} "
                   f"| {1e3 * took['ours']:.2f} ms | {1e3 * took['separate']:.2f} ms | {took['ours'] / took['separate']:.2f} |", flush=True)
