@@ -13,6 +13,7 @@ sys.dont_write_bytecode = True
 import edges
 import example
 import generate
+import many
 import programs
 
 ROOT = programs.ROOT
@@ -172,19 +173,20 @@ def broken_rooms_missed():
 
 
 def valgrind_line(program):
-    """Some hundred sessions and all fixed direct calls with exactly sized heap blocks, under valgrind; None where it finds an error or a print differs."""
+    """Some hundred sessions and all fixed direct calls, of many sets too, with exactly sized heap blocks, under valgrind; None where it finds an error or a print differs."""
     if programs.emulated() or shutil.which("valgrind") is None:
         return "valgrind is missing on this machine or cannot run here: not run"
     sessions = [whole for whole in generate.sessions("valgrind", 120, 200, "all")]
     calls = [call for call in edges.fixed_calls() if call.sides != (32, 32, 32)]
-    given = {"replay": b"".join(map(generate.framed, sessions)), "edges": b"".join(map(edges.frame, calls))}
+    sets = [call for call in many.fixed_calls() if call.sides != (32, 32, 32)]
+    given = {"replay": b"".join(map(generate.framed, sessions)), "edges": b"".join(map(edges.frame, calls)), "many": b"".join(map(many.frame, sets))}
     for name, frames in given.items():
         words = ["valgrind", "--quiet", "--error-exitcode=9", "--leak-check=full", "--errors-for-leak-kinds=definite", *programs.harness(name)]
         done = subprocess.run(words, input=frames, stdout=subprocess.PIPE, env=dict(os.environ, QUETZ_EXACT="1"))
         if done.returncode != 0 or done.stdout.decode("ascii") != programs.run([program, "--" + name], frames):
             print(f"library: {name} under valgrind: status {done.returncode}")
             return None
-    return f"valgrind finds nothing in {len(sessions)} sessions and {len(calls)} direct calls"
+    return f"valgrind finds nothing in {len(sessions)} sessions, {len(calls)} direct calls and {len(sets)} of many sets"
 
 
 def main():
