@@ -3,20 +3,23 @@
 use mathlib.Core.Path.{_≡_, sym, ap, ap₂, _∙_}
 use mathlib.Core.Bool.{Bool, true, false, _&&_}
 use mathlib.Core.List.{List, []}
-use Prim.Native.Nat.{ℕ, _+_, _*_, _≤_}
+use Prim.Native.Nat.{ℕ, _+_, _-_, _*_, _^_, _<_, _≤_}
 use native.Mathlib.Omega.{arith}
 use borrow.Author.Needs.{needs}
 use borrow.Author.Tests.{eq-eqb, le-leb, ltb-false, eqb-true}
 use lib.Dec.{ltb, eqb}
 use lib.IntN.{ℤ, pos}
 use lib.Ieee.{Float}
-use lib.ListN.{length, take, drop, replicate, length-replicate}
+use lib.ListN.{length, take, drop, replicate, length-replicate, length-drop}
+use mir.Syntax.{w64}
+use mir.Val.{Fits}
 use lib.Seq.{take-at, length-take-le}
 use Rattle.laws.specs.Binary64.{+0}
 use Rattle.laws.proofs.Lists.{length-tab}
 use Rattle.method.specs.declared.Answer.{Answer}
 use Rattle.method.specs.declared.Sides.{Sides}
 use Rattle.method.specs.declared.Settings.{Settings}
+use Rattle.method.specs.declared.Found.the-variants.{Nowhere, At}
 use Rattle.method.specs.Cast.{Cast, between, cells, sidesFit}
 use Rattle.method.specs.Form.{headerOf, header, labelsIn, valuesIn, castIn, valueRead}
 use Rattle.method.specs.Answers.{passed, verdict, refusal, done}
@@ -29,13 +32,12 @@ use Rattle.theory.specs.Sides.{Fit}
 use Rattle.theory.proofs.Sides.{fit}
 use Rattle.theory.proofs.Verdicts.{Judged, fine, faulty, judge, AllPass, all-pass, no-fault, no-fault′}
 use Rattle.theory.proofs.RoundTrip.{read-0}
-use Rattle.header.specs.Lines.{HeaderOf, headerIn}
+use Rattle.header.specs.Lines.{HeaderOf, headerIn, wrongIn, startIn}
 use Rattle.header.specs.declared.Header.{Header as Head}
 use Rattle.header.specs.declared.HeaderRead.{HeaderRead}
 use Rattle.header.specs.declared.HeaderRead.the-variants.{Wrong, Named}
 use Rattle.show.specs.Shows.{printRoom, PutShort}
 use Rattle.session_read.specs.Reads.{ReadOf}
-use Rattle.session_read.specs.Reads as reads
 use Rattle.session_read.specs.declared.Session.{Session}
 use Rattle.session_read.proofs.ReadLaws.{reading-refused, reading-passed}
 use Rattle.rounds.specs.Rounds.{castOf}
@@ -43,7 +45,7 @@ use Rattle.solve.specs.Solve.{asked, SolveOf}
 use Rattle.prints.specs.Prints.{crowded}
 use Rattle.prints.proofs.Rooms.{print-other, rooms-alike}
 use Rattle.prints.proofs.Rules.{printed-refused, printed-passed, too-many, same-verdict}
-use Rattle.respond.specs.Responds.{Roomy, IsRead}
+use Rattle.respond.specs.Responds.{Roomy, IsRead, LabelsAt, crowdedBy}
 
 -- ---- too many cells
 pub sides-known : (s : Sides) (w : Bool) → w ≡ sidesFit s → w ≡ true → Fit s
@@ -57,13 +59,19 @@ past-unfit s limit w e t = rw (← e, t)
 
 pub ruleset sides = (needs, sides-known, past-fit, past-unfit)
 
-pub many-wrong : (bs : List ℕ) (limit k : ℕ) (r : HeaderRead) → HeaderOf bs r → r ≡ Wrong k → false ≡ crowded limit bs
-unfolding crowded headerIn headerOf sidesFit between
-many-wrong bs limit k r h e = rw (h .is, e)
+pub many-wrong : (limit k : ℕ) (r : HeaderRead) → r ≡ Wrong k → false ≡ crowdedBy limit r
+unfolding crowdedBy
+many-wrong limit k r e = sym (ap (crowdedBy limit) e)
 
-pub many-named : (bs : List ℕ) (limit : ℕ) (t : Bool) (x : Head) (r : HeaderRead) → HeaderOf bs r → r ≡ Named x → t ≡ (sidesFit (x .sides) && ltb limit (cells (x .sides))) → t ≡ crowded limit bs
-unfolding crowded headerIn
-many-named bs limit t x r h e q = q ∙ sym (ap (λ y. sidesFit (y .sides) && ltb limit (cells (y .sides))) (h .is ∙ ap (headerIn bs) e))
+pub many-named : (limit : ℕ) (t : Bool) (x : Head) (r : HeaderRead) → r ≡ Named x → t ≡ (sidesFit (x .sides) && ltb limit (cells (x .sides))) → t ≡ crowdedBy limit r
+unfolding crowdedBy
+many-named limit t x r e q = q ∙ sym (ap (crowdedBy limit) e)
+
+-- what a header was read to be says it of the bytes
+crowded-by : (bs : List ℕ) (limit : ℕ) (r : HeaderRead) → HeaderOf bs r → crowdedBy limit r ≡ crowded limit bs
+unfolding crowdedBy crowded headerIn headerOf sidesFit between
+crowded-by bs limit (Wrong k) h = sym (ap (λ y. sidesFit (y .sides) && ltb limit (cells (y .sides))) (h .is))
+crowded-by bs limit (Named x) h = sym (ap (λ y. sidesFit (y .sides) && ltb limit (cells (y .sides))) (h .is))
 
 pub ruleset heads = (needs, many-wrong, many-named)
 
@@ -83,14 +91,14 @@ as-printed : (limit : ℕ) (bs : List ℕ) (ps : List ℤ) (x w u : List ℕ) (j
 as-printed limit bs ps x w u j e l p = record { puts = rw e (p .puts); short = omega (arith, p .short) }
 
 -- ---- too many cells, printed
-pub crowded-put : (bs : List ℕ) (limit : ℕ) (t : Bool) (a : Answer) (ps : List ℤ) (w u : List ℕ) (j : ℕ) → t ≡ crowded limit bs → t ≡ true → a ≡ refusal 2 0
+pub crowded-put : (bs : List ℕ) (limit : ℕ) (t : Bool) (x : HeaderRead) (a : Answer) (ps : List ℤ) (w u : List ℕ) (j : ℕ) → HeaderOf bs x → t ≡ crowdedBy limit x → t ≡ true → a ≡ refusal 2 0
     → length ps ≤ limit → PutShort (printRoom (length ps)) (print a ps) w 0 u j → PutShort (printRoom limit) (printed limit bs) w 0 u j
 unfolding refusal
-crowded-put bs limit t a ps w u j e q f l p =
-    as-printed limit bs ps (print a ps) w u j (printed-refused limit bs 2 0 (too-many limit bs (sym e ∙ q)) ∙ print-other (refusal 2 0) [] ps (omega arith) ∙ ap (λ r. print r ps) (sym f)) l p
+crowded-put bs limit t x a ps w u j h e q f l p =
+    as-printed limit bs ps (print a ps) w u j (printed-refused limit bs 2 0 (too-many limit bs (sym (e ∙ crowded-by bs limit x h) ∙ q)) ∙ print-other (refusal 2 0) [] ps (omega arith) ∙ ap (λ r. print r ps) (sym f)) l p
 
-pub not-crowded : (bs : List ℕ) (limit : ℕ) (t : Bool) → t ≡ crowded limit bs → t ≡ false → crowded limit bs ≡ false
-not-crowded bs limit t e q = sym e ∙ q
+pub not-crowded : (bs : List ℕ) (limit : ℕ) (t : Bool) (x : HeaderRead) → HeaderOf bs x → t ≡ crowdedBy limit x → t ≡ false → crowded limit bs ≡ false
+not-crowded bs limit t x h e q = sym (e ∙ crowded-by bs limit x h) ∙ q
 
 pub no-room : (limit m : ℕ) → printRoom limit ≤ m → 160 ≤ m
 no-room limit m h = omega arith
@@ -157,7 +165,29 @@ module _ (limit : ℕ) (bs : List ℕ) (old new : List ℤ) (s : Session) (z : R
             ∙ take-at (valuesIn (header bs)) (drop (cells (header bs .sides)) old) (cells (header bs .sides)) (values-long bs);
       }
 
-pub ruleset answers = (needs, no-room, refused-put, read-passed)
+  pub read-labels : (x : HeaderRead) → HeaderOf bs x → s .answer .number ≡ 0 → LabelsAt bs (s .sides) (s .start)
+  unfolding isRead readerChecks lineCheck sideCheck bodyCheck headerIn wrongIn startIn labelsIn
+  read-labels x h q =
+      let v : verdict readerChecks lent ≡ passed = read-0 lent (ap (λ r. r .number) (sym (z .answer)) ∙ q) in
+      let is : reading lent ≡ isRead lent = reading-passed lent v in
+      go x h (all-pass readerChecks lent v) (z .sides ∙ ap (λ r. r .header .sides) is) (z .start ∙ ap (λ r. r .start) is)
+    where
+      never : {k : ℕ} → At k ≡ Nowhere → ⊥
+      never p = let o : _≡_ {A = ℕ} 0 1 = cc in omega arith
+
+      go : (x : HeaderRead) → HeaderOf bs x → AllPass readerChecks lent → s .sides ≡ header bs .sides → s .start ≡ length bs - length (header bs .body) → LabelsAt bs (s .sides) (s .start)
+      go (Wrong k) h ok g b = absurd (never (sym (h .line) ∙ ok .0))
+      go (Named y) h ok g b =
+          let long : length (header bs .body) ≡ 5 * cells (header bs .sides) = eqb-true _ _ (no-fault _ (ok .1 .1 .0)) in
+          let body : header bs .body ≡ drop (y .start) bs = ap (λ r. r .body) (h .is) in
+          let left : length (header bs .body) ≡ length bs - y .start = ap length body ∙ length-drop (y .start) bs in
+          let here : s .start ≡ y .start = omega (arith, b, left, h .within) in
+          record {
+            within = omega (arith, here, left, long, ap cells g, h .within);
+            are = ap₂ (λ n k. take n (drop k bs)) (ap cells g) here ∙ ap (take (cells (header bs .sides))) (sym body);
+          }
+
+pub ruleset answers = (needs, no-room, refused-put, read-passed, read-labels)
 
 -- ---- and solved
 module _ (limit : ℕ) (bs : List ℕ) (s : Sides) (t : Settings) (vs : List ℤ) (z : IsRead limit bs s t vs) where
@@ -206,15 +236,21 @@ module _ (limit : ℕ) (bs : List ℕ) (s : Sides) (t : Settings) (vs : List ℤ
     pub solved-room : printRoom (length (take n ps)) ≤ length out
     solved-room = omega (arith, part-pressures, count-few, room .output-long)
 
-    labels-is : reading (reads.asked bs (length vs)) .labels ≡ labelsIn (header bs)
-    unfolding isRead
-    labels-is =
-        let m : limit ≤ length (replicate (length vs) (pos 0)) = omega (arith, length-replicate (length vs) (pos 0), room .values-long) in
-        ap (λ r. r .labels) (reading-passed (reads.asked bs (length vs)) (sym (same-verdict limit bs (replicate (length vs) (pos 0)) (z .free) m) ∙ z .passes))
+    module _ (start : ℕ) (at : LabelsAt bs s start) where
+      pub part-fits : length bs < 2 ^ 64 → Fits w64 (start + n)
+      part-fits h = record { fits = omega (arith, c, at .within) }
 
-    module _ (labels : List ℕ) (f : labels ≡ reading (reads.asked bs (length vs)) .labels) where
+      pub part-within : start + n ≤ length bs
+      part-within = omega (arith, c, at .within)
+
+      labels-are : take (start + n - start) (drop start bs) ≡ labelsIn (header bs)
+      labels-are = let m : start + n - start ≡ cells s = omega (arith, c) in ap (λ k. take k (drop start bs)) m ∙ at .are
+
+      abbrev labels : List ℕ
+      labels = take (start + n - start) (drop start bs)
+
       abbrev called : Asked
-      called = asked s labels (take n vs) t (take n ps) bytes floats words
+      called = asked s (take (start + n - start) (drop start bs)) (take n vs) t (take n ps) bytes floats words
 
       abbrev N : ℕ
       N = cells (header bs .sides)
@@ -231,7 +267,7 @@ module _ (limit : ℕ) (bs : List ℕ) (s : Sides) (t : Settings) (vs : List ℤ
 
       same-cast : castOf s labels (take n vs) ≡ castIn (header bs)
       unfolding castIn
-      same-cast = cast-eq s (header bs .sides) labels (labelsIn (header bs)) (take n vs) (valuesIn (header bs)) (z .sides) (f ∙ labels-is) (ap (λ k. take k vs) c ∙ z .values)
+      same-cast = cast-eq s (header bs .sides) labels (labelsIn (header bs)) (take n vs) (valuesIn (header bs)) (z .sides) labels-are (ap (λ k. take k vs) c ∙ z .values)
 
       same-called : called ≡ record { cast = castIn (header bs); settings = header bs .settings; pressures = take n ps; bytes = bytes; floats = floats; words = words }
       same-called = ap₂ (λ k x. record { cast = k; settings = x; pressures = take n ps; bytes = bytes; floats = floats; words = words }) same-cast (z .settings)
@@ -246,4 +282,4 @@ module _ (limit : ℕ) (bs : List ℕ) (s : Sides) (t : Settings) (vs : List ℤ
       pub solved-is : (u : List ℕ) (j : ℕ) → PutShort (printRoom (length (take n ps))) (shown (solving called)) out 0 u j → PutShort (printRoom limit) (printed limit bs) out 0 u j
       solved-is u j p = as-printed limit bs (take n ps) (shown (solving called)) out u j (sym same-print) (omega (arith, part-pressures, count-few)) p
 
-pub ruleset parts = (needs, read-fit, in-values, part-values, in-pressures, part-pressures, solved-room, solved-is)
+pub ruleset parts = (needs, read-fit, in-values, part-values, in-pressures, part-pressures, solved-room, part-fits, part-within, solved-is)

@@ -1,17 +1,20 @@
 -- Room for so many cells, and what is known of a session that was read.
-use Prim.Native.Nat.{ℕ, _≤_}
+use Prim.Native.Nat.{ℕ, _+_, _≤_}
 use mathlib.Core.Path.{_≡_}
-use mathlib.Core.Bool.{false}
+use mathlib.Core.Bool.{Bool, false, _&&_}
 use mathlib.Core.List.{List, []}
 use lib.IntN.{ℤ}
-use lib.ListN.{length, take}
+use lib.Dec.{ltb}
+use lib.ListN.{length, take, drop}
 use Rattle.method.specs.declared.Sides.{Sides}
 use Rattle.method.specs.declared.Settings.{Settings}
-use Rattle.method.specs.Cast.{cells}
-use Rattle.method.specs.Form.{header, valuesIn}
+use Rattle.method.specs.Cast.{cells, sidesFit}
+use Rattle.method.specs.Form.{header, labelsIn, valuesIn}
 use Rattle.method.specs.Answers.{passed, verdict}
 use Rattle.method.specs.Rooms.{byteNeed, floatNeed, wordNeed}
 use Rattle.method.specs.Program.{programChecks, printed}
+use Rattle.header.specs.declared.HeaderRead.{HeaderRead}
+use Rattle.header.specs.declared.HeaderRead.the-variants.{Wrong, Named}
 use Rattle.show.specs.Shows.{printRoom, PutShort}
 use Rattle.prints.specs.Prints.{crowded, bufferFor}
 
@@ -23,6 +26,16 @@ pub record Roomy (limit values pressures bytes floats words output : ℕ) : Type
   pub floats-long : floatNeed limit ≤ floats
   pub words-long : wordNeed limit ≤ words
   pub output-long : printRoom limit ≤ output
+
+-- sides in range but more cells than there is room for, by what a header was read to be
+unfoldable pub crowdedBy : ℕ → HeaderRead → Bool
+crowdedBy limit (Wrong k) = false
+crowdedBy limit (Named h) = sidesFit (h .sides) && ltb limit (cells (h .sides))
+
+-- where the labels of a session that was read stand in its bytes
+pub record LabelsAt (input : List ℕ) (s : Sides) (start : ℕ) : Type 0 where
+  pub within : start + cells s ≤ length input
+  pub are : take (cells s) (drop start input) ≡ labelsIn (header input)
 
 -- it passes all checks, and what it names was handed back
 pub record IsRead (limit : ℕ) (input : List ℕ) (s : Sides) (t : Settings) (vs : List ℤ) : Type 0 where

@@ -10,7 +10,8 @@ ghost use Rattle.method.specs.Program.{shown, printed};
 ghost use Rattle.show.specs.Shows.{printRoom, PutShort};
 ghost use Rattle.solve.specs.Solve.{asked};
 ghost use Rattle.prints.specs.Prints.{crowded};
-ghost use Rattle.respond.specs.Responds.{Roomy, IsRead};
+ghost use Rattle.header.specs.Lines.{HeaderOf};
+ghost use Rattle.respond.specs.Responds.{Roomy, IsRead, LabelsAt, crowdedBy};
 use answers::refusal;
 use checks::cast::sides_fit;
 use grid::place::cell_count;
@@ -18,6 +19,7 @@ use header::HeaderRead;
 use header::read_header;
 use method::Settings;
 use method::Sides;
+use session_read::Session;
 use show::show;
 
 // Whether sides are in range and have more cells than there is room for.
@@ -31,10 +33,10 @@ fn past(sides: Sides, limit: usize) -> bool
 }
 
 // The same of the sides that a header names.
-fn too_many(bytes: &[u8], limit: usize) -> bool
-    ensures { λ r. ⌜ r ≡ crowded limit (now (bytes .entry)) ⌝ }
+fn too_many(read: HeaderRead, limit: usize) -> bool
+    ensures { λ r. ⌜ r ≡ crowdedBy limit read ⌝ }
 {
-    match read_header(bytes) {
+    match read {
         HeaderRead::Wrong(_) => false,
         HeaderRead::Named(h) => {
             let sides = h.sides;
@@ -71,12 +73,11 @@ pub fn solved(
     show(answer, &pressures[..], output)
 }
 
-// A session that was read is solved, in the parts of what is lent that its cells take.
+// A session that was read is solved, in the parts of what is lent that its cells take; its labels are a part of the input.
 fn solve_read(
     input: &[u8],
     limit: usize,
-    sides: Sides,
-    settings: Settings,
+    read: Session,
     values: &[i32],
     pressures: &mut [i64],
     bytes: &mut [u8],
@@ -85,14 +86,17 @@ fn solve_read(
     output: &mut [u8],
 ) -> usize
     requires { ⌜ Roomy limit (length (now values)) (length (now pressures)) (length (now bytes)) (length (now floats)) (length (now words)) (length (now output)) ⌝ }
-    requires { ⌜ IsRead limit (now input) sides settings (now values) ⌝ }
+    requires { ⌜ IsRead limit (now input) (read .sides) (read .settings) (now values) ⌝ }
+    requires { ⌜ LabelsAt (now input) (read .sides) (read .start) ⌝ }
     ensures { λ r. ⌜ PutShort (printRoom limit) (printed limit (now (input .entry))) (now (output .entry)) 0 (now (output .exit)) r ⌝ }
 {
+    let sides = read.sides;
+    let settings = read.settings;
+    let start = read.start;
     let n = cell_count(sides);
-    let labels = session_read::labels(input, values.len());
     solved(
         sides,
-        labels,
+        &input[start..start + n],
         &values[..n],
         settings,
         &mut pressures[..n],
@@ -106,6 +110,7 @@ fn solve_read(
 // A session that does not name too many cells is read, and solved where the reader does not refuse it.
 fn answered(
     input: &[u8],
+    header: HeaderRead,
     limit: usize,
     values: &mut [i32],
     pressures: &mut [i64],
@@ -115,21 +120,19 @@ fn answered(
     output: &mut [u8],
 ) -> usize
     requires { ⌜ Roomy limit (length (now values)) (length (now pressures)) (length (now bytes)) (length (now floats)) (length (now words)) (length (now output)) ⌝ }
+    requires { ⌜ HeaderOf (now input) header ⌝ }
     requires { ⌜ crowded limit (now input) ≡ false ⌝ }
     ensures { λ r. ⌜ PutShort (printRoom limit) (printed limit (now (input .entry))) (now (output .entry)) 0 (now (output .exit)) r ⌝ }
 {
-    let read = session_read::read(input, values);
+    let read = session_read::read_after(input, header, values);
     let answer = read.answer;
     if answer.number != 0 {
         return show(answer, &pressures[..0], output);
     }
-    let sides = read.sides;
-    let settings = read.settings;
     solve_read(
         input,
         limit,
-        sides,
-        settings,
+        read,
         &values[..],
         pressures,
         bytes,
@@ -154,12 +157,14 @@ pub fn respond(
     requires { ⌜ Roomy limit (length (now values)) (length (now pressures)) (length (now bytes)) (length (now floats)) (length (now words)) (length (now output)) ⌝ }
     ensures { λ r. ⌜ PutShort (printRoom limit) (printed limit (now (input .entry))) (now (output .entry)) 0 (now (output .exit)) r ⌝ }
 {
-    if too_many(input, limit) {
+    let header = read_header(input);
+    if too_many(header, limit) {
         let answer = refusal(2, 0);
         return show(answer, &pressures[..0], output);
     }
     answered(
         input,
+        header,
         limit,
         values,
         pressures,

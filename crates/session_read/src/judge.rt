@@ -16,7 +16,6 @@ use grid::place::cell_count;
 use header::Header;
 use header::HeaderRead;
 use header::line::rest;
-use header::read_header;
 
 // Checks 3, 4 and 5, of what the header names and a body of n cells.
 fn judge_rest(bytes: &[u8], n: usize, h: Header) -> Ruling
@@ -59,11 +58,12 @@ fn judge_sizes(bytes: &[u8], room: usize, h: Header) -> Judged
     }
 }
 
-// Check 10, and then all others.
-pub(crate) fn judge_session(bytes: &[u8], room: usize) -> Judged
+// Check 10, by what the header was read to be, and then all others.
+pub(crate) fn judge_session(bytes: &[u8], read: HeaderRead, room: usize) -> Judged
+    requires { ⌜ HeaderOf (now bytes) read ⌝ }
     ensures { λ r. ⌜ JudgedOf (now (bytes .entry)) room r ⌝ }
 {
-    match read_header(bytes) {
+    match read {
         HeaderRead::Wrong(line) => Judged::Refused(10, line),
         HeaderRead::Named(h) => judge_sizes(bytes, room, h),
     }

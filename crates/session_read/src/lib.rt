@@ -5,11 +5,14 @@ mod sizes;
 
 ghost use mathlib.Core.Path.{_≡_};
 ghost use Rattle.method.specs.Reading.{reading};
+ghost use Rattle.header.specs.Lines.{HeaderOf};
 ghost use Rattle.session_read.specs.Reads.{FitIf, ReadOf, asked, takenOf};
 use answers::refusal;
 use grid::place::cell_count;
 use header::Header;
+use header::HeaderRead;
 use header::line::rest;
+use header::read_header;
 use judge::judge_session;
 use method::Answer;
 use method::Order;
@@ -82,11 +85,13 @@ fn taken_of(judged: Judged) -> Taken
     }
 }
 
-// Reads a session: its header is handed back, its values are stored. All checks come before the first store.
-pub fn read(bytes: &[u8], values: &mut [i32]) -> Session
+// Reads a session whose header was read: what it names is handed back, the values are stored. All checks come before the
+// first store.
+pub fn read_after(bytes: &[u8], header: HeaderRead, values: &mut [i32]) -> Session
+    requires { ⌜ HeaderOf (now bytes) header ⌝ }
     ensures { λ r. ⌜ ReadOf (now (bytes .entry)) (now (values .entry)) r (now (values .exit)) ⌝ }
 {
-    let judged = judge_session(bytes, values.len());
+    let judged = judge_session(bytes, header, values.len());
     let taken = taken_of(judged);
     let session = taken.session;
     let order = session.order;
@@ -97,11 +102,18 @@ pub fn read(bytes: &[u8], values: &mut [i32]) -> Session
     session
 }
 
+// Reads a session.
+pub fn read(bytes: &[u8], values: &mut [i32]) -> Session
+    ensures { λ r. ⌜ ReadOf (now (bytes .entry)) (now (values .entry)) r (now (values .exit)) ⌝ }
+{
+    read_after(bytes, read_header(bytes), values)
+}
+
 // The label part of a session that is read with room for so many values: no copy. Nothing where the reader refuses it.
 pub fn labels(bytes: &[u8], room: usize) -> &[u8]
     ensures { λ r. ⌜ now r ≡ reading (asked (now (bytes .entry)) room) .labels ⌝ }
 {
-    let judged = judge_session(bytes, room);
+    let judged = judge_session(bytes, read_header(bytes), room);
     let taken = taken_of(judged);
     let session = taken.session;
     let start = session.start;

@@ -3,8 +3,8 @@ use Rattle.respond.proofs.RespondLaws.{answers}
 use Rattle.respond.proofs.answered.Statement.{statement}
 use Rattle.respond.proofs.answered.Tie as tie
 
-read-requires : tie.Need-read-requires
-read-requires c κs = search answers
+read-after-requires : tie.Need-read-after-requires
+read-after-requires c κs = search answers
 
 slice-reshare-prefix-show : tie.Need-slice-reshare-prefix-show
 slice-reshare-prefix-show c = search answers
@@ -28,7 +28,7 @@ returns : tie.Need-returns
 returns c = search answers
 
 solve-read-requires : tie.Need-solve-read-requires
-solve-read-requires c κs = (search answers, search answers)
+solve-read-requires c κs = (search answers, (search answers, search answers))
 
 same-length-4 : tie.Need-same-length-4
 same-length-4 c = search answers
@@ -55,7 +55,7 @@ pub answered-spec : {M : Type 1} → statement M
 answered-spec =
     tie.close
     (tie.spec
-    read-requires
+    read-after-requires
     slice-reshare-prefix-show
     slice-aggregate-show
     show-requires

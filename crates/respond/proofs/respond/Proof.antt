@@ -3,6 +3,9 @@ use Rattle.respond.proofs.RespondLaws.{responses}
 use Rattle.respond.proofs.respond.Statement.{statement}
 use Rattle.respond.proofs.respond.Tie as tie
 
+read-header-requires : tie.Need-read-header-requires
+read-header-requires c κs = search responses
+
 too-many-requires : tie.Need-too-many-requires
 too-many-requires c κs = search responses
 
@@ -28,7 +31,7 @@ returns : tie.Need-returns
 returns c = search responses
 
 answered-requires : tie.Need-answered-requires
-answered-requires c κs = search responses
+answered-requires c κs = (search responses, (search responses, search responses))
 
 same-length-3 : tie.Need-same-length-3
 same-length-3 c = search responses
@@ -55,6 +58,7 @@ pub respond-spec : {M : Type 1} → statement M
 respond-spec =
     tie.close
     (tie.spec
+    read-header-requires
     too-many-requires
     refusal-requires
     slice-reshare-prefix-show

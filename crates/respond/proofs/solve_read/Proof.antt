@@ -6,8 +6,17 @@ use Rattle.respond.proofs.solve_read.Tie as tie
 cell-count-requires : tie.Need-cell-count-requires
 cell-count-requires c κs = search parts
 
-labels-requires : tie.Need-labels-requires
-labels-requires c κs = search parts
+add-solved : tie.Need-add-solved
+add-solved c = search parts
+
+sub-solved : tie.Need-sub-solved
+sub-solved c = search parts
+
+part-solved-start : tie.Need-part-solved-start
+part-solved-start c = search parts
+
+part-solved-end : tie.Need-part-solved-end
+part-solved-end c = search parts
 
 slice-aggregate-solved : tie.Need-slice-aggregate-solved
 slice-aggregate-solved c = search parts
@@ -44,7 +53,10 @@ solve-read-spec =
     tie.close
     (tie.spec
     cell-count-requires
-    labels-requires
+    add-solved
+    sub-solved
+    part-solved-start
+    part-solved-end
     slice-aggregate-solved
     slice-relend-prefix-solved
     slice-aggregate-solved-2

@@ -3,6 +3,9 @@ use Rattle.session_read.proofs.ReadLaws.{readers}
 use Rattle.session_read.proofs.labels.Statement.{statement}
 use Rattle.session_read.proofs.labels.Tie as tie
 
+read-header-requires : tie.Need-read-header-requires
+read-header-requires c κs = search readers
+
 judge-session-requires : tie.Need-judge-session-requires
 judge-session-requires c κs = search readers
 
@@ -28,6 +31,7 @@ pub labels-spec : {M : Type 1} → statement M
 labels-spec =
     tie.close
     (tie.spec
+    read-header-requires
     judge-session-requires
     taken-of-requires
     add-result

@@ -1,38 +1,19 @@
--- `session_read::read` meets its contract; that what it reads is bytes is known of a `&[u8]`. Assumes nothing.
-use native.Mathlib.Omega.{arith}
-use Rattle.theory.specs.Sessions.{Bytes}
-use Rattle.session_read.proofs.ReadLaws.{readers}
+-- `session_read::read` meets its contract: the header is read, and then the rest. Assumes nothing.
+use borrow.Author.Needs.{needs}
 use Rattle.session_read.proofs.read.Statement.{statement}
 use Rattle.session_read.proofs.read.Tie as tie
 
-judge-session-requires : tie.Need-judge-session-requires
-judge-session-requires c κs = search readers
+read-header-requires : tie.Need-read-header-requires
+read-header-requires c κs = search needs
 
-taken-of-requires : tie.Need-taken-of-requires
-taken-of-requires c κs = search readers
-
-rest-requires : tie.Need-rest-requires
-rest-requires c κs = search readers
-
-store-values-requires : tie.Need-store-values-requires
-store-values-requires c κs = search readers
+read-after-requires : tie.Need-read-after-requires
+read-after-requires c κs = search needs
 
 same-length : tie.Need-same-length
-same-length c = search readers
+same-length c = search needs
 
 returns : tie.Need-returns
-returns c =
-    let start = c .before .before .before .before .before .before .before in
-    let known : Bytes (start .before .args .bytes .now) = λ i. omega (arith, start .shared-slice-known .given i) in
-    search readers
+returns c = search needs
 
 pub read-spec : {M : Type 1} → statement M
-read-spec =
-    tie.close
-    (tie.spec
-    judge-session-requires
-    taken-of-requires
-    rest-requires
-    store-values-requires
-    same-length
-    returns)
+read-spec = tie.close (tie.spec read-header-requires read-after-requires same-length returns)

@@ -3,14 +3,11 @@ use Rattle.session_read.proofs.JudgeLaws.{sized}
 use Rattle.session_read.proofs.judge.judge_session.Statement.{statement}
 use Rattle.session_read.proofs.judge.judge_session.Tie as tie
 
-read-header-requires : tie.Need-read-header-requires
-read-header-requires c κs = search sized
+enum-known-read : tie.Need-enum-known-read
+enum-known-read c = search sized
 
-enum-known-line : tie.Need-enum-known-line
-enum-known-line c = search sized
-
-enum-known-h : tie.Need-enum-known-h
-enum-known-h c = search sized
+enum-known-read-2 : tie.Need-enum-known-read-2
+enum-known-read-2 c = search sized
 
 judge-sizes-requires : tie.Need-judge-sizes-requires
 judge-sizes-requires c κs = search sized
@@ -23,5 +20,4 @@ returns-2 c = search sized
 
 pub judge-session-spec : {M : Type 1} → statement M
 judge-session-spec =
-    tie.close
-    (tie.spec read-header-requires enum-known-line enum-known-h judge-sizes-requires returns returns-2)
+    tie.close (tie.spec enum-known-read enum-known-read-2 judge-sizes-requires returns returns-2)
