@@ -5,9 +5,9 @@ use Prim.Native.Nat.{ℕ, _≤_}
 use lib.ListN.{length}
 use Rattle.method.specs.Program.{programRoom, printed, program}
 use Rattle.prints.specs.Prints.{inputRoom}
-use Rattle.show.specs.Shows.{printRoom, PutShort}
-use Rattle.respond.specs.Responds.{FrontOf}
-use Rattle.respond.proofs.FrontLaws.{front-put}
+use Rattle.answer_print.specs.Shows.{printRoom, PutShort}
+use Rattle.answer_session.specs.Responds.{FrontOf}
+use Rattle.answer_session.proofs.FrontLaws.{front-put}
 use Rattle.airway.specs.Programs.{ProgramOf}
 
 pub program-put : (limit : ℕ) (front : List ℕ) {old new : List ℕ} {r : ℕ} → PutShort (printRoom limit) (printed limit front) old 0 new r → limit ≡ programRoom

@@ -5,7 +5,7 @@ use mathlib.Core.List.{List}
 use lib.ListN.{length, take}
 use Rattle.method.specs.Program.{programRoom, program}
 use Rattle.prints.specs.Prints.{inputRoom}
-use Rattle.show.specs.Shows.{printRoom, PutShort}
+use Rattle.answer_print.specs.Shows.{printRoom, PutShort}
 
 -- THE PROMISE of the program: of every input whose front was handed in (all of it, where it is no longer), the print
 -- stands at the front of the output, all else of the output is as it was, and the print's length comes back

@@ -2,15 +2,15 @@
 // for 1,000 cells.
 // An input may have any length: its first 5,095 bytes decide what is printed (`front-is-enough`, crates/prints), so no
 // more are read.
+use answer_session::respond;
 use libc::STDIN_FILENO;
 use libc::STDOUT_FILENO;
-use respond::respond;
 ghost use mathlib.Core.Path.{_≡_};
 ghost use Prim.Native.Nat.{_≤_};
 ghost use lib.ListN.{length, take};
 ghost use Rattle.method.specs.Program.{programRoom};
 ghost use Rattle.prints.specs.Prints.{inputRoom};
-ghost use Rattle.respond.specs.Responds.{Roomy};
+ghost use Rattle.answer_session.specs.Responds.{Roomy};
 ghost use Rattle.airway.specs.Programs.{ProgramOf};
 
 // How many cells there is room for: `method`'s programRoom, by which all that is lent is measured.

@@ -2,14 +2,14 @@
 // program prints it, with rooms for 32,768 cells.
 // An input may have any length: its first 163,935 bytes decide what is printed (`front-is-enough-for`, crates/prints),
 // so no more are read.
+use answer_session::respond;
 use libc::STDIN_FILENO;
 use libc::STDOUT_FILENO;
-use respond::respond;
 ghost use mathlib.Core.Path.{_≡_};
 ghost use Prim.Native.Nat.{_≤_};
 ghost use lib.ListN.{length, take};
 ghost use Rattle.prints.specs.Prints.{bufferFor, largeRoom};
-ghost use Rattle.respond.specs.Responds.{Roomy, FrontOf};
+ghost use Rattle.answer_session.specs.Responds.{Roomy, FrontOf};
 
 // How many cells there is room for: as many as the greatest cast has, by which all that is lent is measured.
 const LIMIT: usize = 32768;

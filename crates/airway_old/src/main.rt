@@ -3,19 +3,19 @@
 // nothing); the answer on standard output, as document 01's program prints it, with rooms for 32,768 cells.
 // An input may have any length: its first 98,347 bytes decide what is printed (`old-front-prints`, crates/prints), so
 // no more are read.
-use header::HeaderRead;
-use header::read_header;
+use answer_old_session::respond_old;
 use libc::STDERR_FILENO;
 use libc::STDIN_FILENO;
 use libc::STDOUT_FILENO;
 use method::Settings;
-use old_respond::respond_old;
+use session_header::HeaderRead;
+use session_header::read_header;
 ghost use mathlib.Core.Path.{_≡_};
 ghost use Prim.Native.Nat.{_≤_};
 ghost use lib.ListN.{length, take};
 ghost use Rattle.prints.specs.Prints.{largeRoom, oldBuffer};
-ghost use Rattle.respond.specs.Responds.{Roomy};
-ghost use Rattle.old_respond.specs.OldResponds.{OldProgramOf};
+ghost use Rattle.answer_session.specs.Responds.{Roomy};
+ghost use Rattle.answer_old_session.specs.OldResponds.{OldProgramOf};
 
 // How many cells there is room for: as many as the greatest cast has, by which all that is lent is measured.
 const LIMIT: usize = 32768;

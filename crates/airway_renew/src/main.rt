@@ -3,8 +3,7 @@
 // nothing); the new session on standard output, or on a refusal nothing there and the answer's lines on standard error.
 // There is room for 32,768 cells. An input may have any length: its first 98,347 bytes decide (`old-front-renews`,
 // crates/prints), so no more are read.
-use header::HeaderRead;
-use header::read_header;
+use answer_print::show;
 use libc::STDERR_FILENO;
 use libc::STDIN_FILENO;
 use libc::STDOUT_FILENO;
@@ -12,8 +11,9 @@ use method::Answer;
 use method::Order;
 use method::Settings;
 use renew::renew;
+use session_header::HeaderRead;
+use session_header::read_header;
 use session_write::Written;
-use show::show;
 ghost use mathlib.Core.Path.{_≡_};
 ghost use Prim.Native.Nat.{_≤_};
 ghost use lib.ListN.{length, take};

@@ -106,7 +106,7 @@ fn widest_at(label: u8) -> u32
 pub fn out_of_range(label: u8, v: i32) -> bool
     ensures { λ r. ⌜ r ≡ ltb (widest label) (natAbs v) ⌝ }
 {
-    widest_at(label) < whole::size32(v)
+    widest_at(label) < signed_numbers::size32(v)
 }
 
 // Whether the value of cell c is out of its label's range.

@@ -42,11 +42,11 @@ use Rattle.cycle.specs.Rooms.{Ready, cellsOf, cycleFrom, fieldsFrom, Cycled}
 use Rattle.cycle.proofs.Laws.{put-then}
 use Rattle.cycle.proofs.Calls.{prepared-from, ready-first, fields-most, zero-end, zero-part, cycled-end}
 use Rattle.library_tests.specs.Run.{Asked, CycleOf, sealedAs, WalkOf, tickAs, TickOf, labelPart, LabelsOf}
-use Rattle.puts.specs.Puts as Puts
+use Rattle.text_out.specs.Puts as Puts
 use Rattle.library_tests.specs.declared.Walk.{Walk}
 use Rattle.library_tests.specs.declared.Ticked.{Ticked}
-use Rattle.walks.specs.declared.Walked.{Walked}
-use Rattle.walks.specs.Search.{Roomy, Measured}
+use Rattle.distances.specs.declared.Walked.{Walked}
+use Rattle.distances.specs.Search.{Roomy, Measured}
 
 -- ---- a cycle after a cycle: b stays, and so the second's u is the first's
 module _ (l : Levels) (bytes : List ℕ) (count k : ℕ) (e d : List Float) (p : Cycled l bytes count k e d) where

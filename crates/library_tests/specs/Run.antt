@@ -18,7 +18,7 @@ use Rattle.method.specs.Ticks.{tick}
 use Rattle.method.specs.declared.Settings.{Settings}
 use Rattle.method.specs.OldForm.{oldReading}
 use Rattle.old_read.specs.OldReads.{oldAsked}
-use Rattle.puts.specs.Puts as Put
+use Rattle.text_out.specs.Puts as Put
 use Rattle.method.specs.Rooms.{byteNeed}
 use Rattle.theory.specs.Sides.{Fit}
 use Rattle.smooth.specs.Fields.{u-of, b-of}

@@ -167,7 +167,7 @@ fn fitted_walk(sides: Sides, labels: &[u8], words: &mut [u32]) -> Walk
     if words.len() < 2 * n {
         return unfit();
     }
-    let w = walks::distances(words, labels, sides);
+    let w = distances::distances(words, labels, sides);
     let sealed = w.sealed;
     match sealed {
         Found::At(c) => Walk {
@@ -222,5 +222,5 @@ pub extern "C" fn quetz_test_old_labels(
     if output.len() < labels.len() {
         return 0;
     }
-    puts::put_bytes(output, 0, labels)
+    text_out::put_bytes(output, 0, labels)
 }

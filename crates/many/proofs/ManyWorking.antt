@@ -30,7 +30,7 @@ use Rattle.theory.proofs.Verdicts.{AllPass, all-pass}
 use Rattle.theory.proofs.Firsts.{Search, found, none, search-first}
 use Rattle.theory.proofs.Accepted.{some-air, reaching}
 use Rattle.theory.proofs.Reach.{test-air}
-use Rattle.walks.specs.Search.{Roomy}
+use Rattle.distances.specs.Search.{Roomy}
 use Rattle.bands.proofs.Calls.{words-enough}
 use Rattle.theory.proofs.Verdicts.{fails-at, passes-on}
 use Rattle.rounds.specs.declared.Plan.{Plan}

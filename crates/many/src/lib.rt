@@ -33,7 +33,7 @@ fn work(
     requires { ⌜ ManyChecked sides (now labels) settings sets (now values) (length (now pressures)) (length (now answers)) (length (now bytes)) (length (now floats)) (length (now words)) ⌝ }
     ensures { λ r. ⌜ ManyWorked sides (now (labels .entry)) (now (values .entry)) settings sets (now (pressures .entry)) (now (answers .entry)) r (now (pressures .exit)) (now (answers .exit)) ⌝ }
 {
-    let walked = walks::distances(words, labels, sides);
+    let walked = distances::distances(words, labels, sides);
     let sealed = walked.sealed;
     match sealed {
         Found::At(place) => refusal(7, place),

@@ -32,7 +32,7 @@ fn put_tail(answers: &mut [i64], worstcell: u32, worstvalue: i32, interior: u32,
     requires { ⌜ length (now answers) ≡ fieldCount ⌝ }
     ensures { λ _. ⌜ now (answers .exit) ≡ fourAt 4 (pos worstcell) worstvalue (pos interior) (pos depth) (now (answers .entry)) ⌝ }
 {
-    let value = whole::wide(worstvalue);
+    let value = signed_numbers::wide(worstvalue);
     answers[4] = worstcell as i64;
     answers[5] = value;
     answers[6] = interior as i64;

@@ -17,10 +17,10 @@ use Rattle.method.specs.declared.Found.the-variants.{At}
 use Rattle.method.specs.Cast.{between}
 use Rattle.method.specs.Form.{Line, bad, good, Lines, wrong, right, more, readLines}
 use Rattle.method.specs.OldForm.{numberTo, oldParts, lineOfPart, oldHeaderOf, oldHeader, oldWrongLine, oldBadLine, unitFits}
-use Rattle.header.specs.Lines.{LineOf}
-use Rattle.header.specs.declared.LineRead.{LineRead}
-use Rattle.header.specs.declared.LineRead.the-variants.{NotOfForm, Value}
-use Rattle.header.proofs.HeaderLaws.{read-bad, read-good, line-good, line-bad, line-within}
+use Rattle.session_header.specs.Lines.{LineOf}
+use Rattle.session_header.specs.declared.LineRead.{LineRead}
+use Rattle.session_header.specs.declared.LineRead.the-variants.{NotOfForm, Value}
+use Rattle.session_header.proofs.HeaderLaws.{read-bad, read-good, line-good, line-bad, line-within}
 use Rattle.old_header.specs.OldLines.{OldHeaderOf, oldHeaderIn, oldWrongIn, oldStartIn, unitPart, withSize, NoSize, SizeIs, SizeOf}
 use Rattle.old_header.specs.declared.SizeRead.{SizeRead}
 use Rattle.old_header.specs.declared.SizeRead.the-variants.{NotOfForm as NoneSize, Named as NamedSize}

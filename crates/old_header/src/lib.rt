@@ -2,10 +2,10 @@
 ghost use mathlib.Core.Path.{_≡_};
 ghost use Rattle.method.specs.OldForm.{unitFits};
 ghost use Rattle.old_header.specs.OldLines.{SizeOf, OldHeaderOf};
-use header::LineRead;
-use header::line::number_to;
-use header::line::rest;
 use method::Sides;
+use session_header::LineRead;
+use session_header::line::number_to;
+use session_header::line::rest;
 
 // The line of the size, read: not of the form, or the sides and how many bytes it took.
 enum SizeRead {

@@ -18,9 +18,9 @@ use Rattle.method.specs.Numbers.{decimal}
 use Rattle.method.specs.Form.{line}
 use Rattle.method.specs.OldForm.{oldValueRead, oldValueWritten, sizeWord, oldHeaderWritten, oldWritten}
 use Rattle.theory.proofs.OldBytes.{length-two, length-rows}
-use Rattle.puts.specs.Puts.{Put, DigitsOf}
-use Rattle.puts.proofs.PutLaws.{put-length, put-then, put-room, front-room, all-put, first-room, second-room, third-room}
-use Rattle.writes.proofs.PartLaws.{flat-append, flat-one}
+use Rattle.text_out.specs.Puts.{Put, DigitsOf}
+use Rattle.text_out.proofs.PutLaws.{put-length, put-then, put-room, front-room, all-put, first-room, second-room, third-room}
+use Rattle.session_bytes.proofs.PartLaws.{flat-append, flat-one}
 use Rattle.old_put.specs.OldPuts.{OldHeaderLength}
 
 -- ---- the line of the size: three numbers, each with what stands before and after it

@@ -14,8 +14,8 @@ use mir.Val.{SFits, toZ, ofZ}
 use mir.Facts.{toZ-ofZ}
 use Rattle.laws.specs.Whole.{neg}
 use Rattle.method.specs.OldForm.{shortWord, twoBytes, stored, oldValueWritten}
-use Rattle.puts.specs.Puts.{Put}
-use Rattle.whole.proofs.Signs.{below, above}
+use Rattle.text_out.specs.Puts.{Put}
+use Rattle.signed_numbers.proofs.Signs.{below, above}
 
 -- ---- the word that stores it
 neg-word : (q : ℕ) → q < 65536 → twoBytes (65536 - q) ≡ twoBytes (shortWord (neg (pos q)))

@@ -1,7 +1,7 @@
 // How many bytes the two lines of an old session have.
 ghost use Rattle.old_put.specs.OldPuts.{OldHeaderLength};
 use method::Sides;
-use puts::decimal::digits_of;
+use text_out::decimal::digits_of;
 
 // The digits, and 14 for two keys, two separators and two line feeds.
 pub fn old_header_length(sides: Sides, unit: u32) -> usize

@@ -7,11 +7,11 @@ ghost use lib.ListN.{length as ListN·length};
 ghost use Rattle.laws.specs.Text.{text};
 ghost use Rattle.method.specs.Form.{line};
 ghost use Rattle.method.specs.OldForm.{sizeWord, oldHeaderWritten, oldWritten};
-ghost use Rattle.puts.specs.Puts.{Put};
+ghost use Rattle.text_out.specs.Puts.{Put};
 use method::Sides;
-use puts::put_bytes;
-use puts::put_line;
-use puts::put_number;
+use text_out::put_bytes;
+use text_out::put_line;
+use text_out::put_number;
 use values::put_values;
 
 // Puts the line of the size.

@@ -4,9 +4,9 @@ ghost use mathlib.Core.List.{[], _∷_, flatMap};
 ghost use Prim.Native.Nat.{_+_, _*_, _<_, _≤_};
 ghost use lib.ListN.{length};
 ghost use Rattle.method.specs.OldForm.{twoBytes, oldValueWritten};
-ghost use Rattle.puts.specs.Puts.{Put};
-use whole::size32;
-use writes::byte_of;
+ghost use Rattle.text_out.specs.Puts.{Put};
+use session_bytes::byte_of;
+use signed_numbers::size32;
 
 // The word of 16 bits that stores a value, in two's complement.
 fn stored_word(v: i32, unit: u32) -> u32

@@ -23,7 +23,7 @@ use Rattle.theory.proofs.Bytes.{in-word, word-value}
 use Rattle.theory.proofs.OldBytes.{Short, signed-short, two-at}
 use Rattle.theory.proofs.Firsts.{none-none, none-more, none-end, hit}
 use Rattle.checks.proofs.CheckLaws.{small-cell, within-both}
-use Rattle.words.proofs.WordLaws.{Stored, stored-none, stored-more, stored-all, room-left}
+use Rattle.session_values.proofs.WordLaws.{Stored, stored-none, stored-more, stored-all, room-left}
 use lib.ListN.{length-set}
 use Rattle.old_read.specs.OldBody.{oldValueIn, badOldValue}
 

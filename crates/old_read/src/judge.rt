@@ -17,13 +17,13 @@ use checks::cast::sides_fit;
 use checks::rule::earlier;
 use checks::rule::ruled;
 use grid::place::cell_count;
-use header::line::rest;
 use method::Settings;
 use method::Sides;
 use old_header::OldHeader;
 use old_header::OldHeaderRead;
 use old_header::read_old_header;
 use old_header::unit_fits;
+use session_header::line::rest;
 
 // Check 3: the unit and the settings.
 fn limits_fit(unit: u32, settings: Settings) -> bool

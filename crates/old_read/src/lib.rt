@@ -7,12 +7,12 @@ ghost use Rattle.method.specs.OldForm.{oldReading};
 ghost use Rattle.old_read.specs.OldReads.{TakesIf, OldReadOf, oldAsked, oldTakenOf};
 use answers::refusal;
 use grid::place::cell_count;
-use header::line::rest;
 use judge::judge_old;
 use method::Answer;
 use method::Settings;
 use method::Sides;
 use old_header::OldHeader;
+use session_header::line::rest;
 use values::store_values;
 
 // An old session, judged: number and place of the first check that fails, or what its lines name.

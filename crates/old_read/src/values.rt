@@ -13,8 +13,8 @@ ghost use Rattle.method.specs.OldForm.{shortSigned};
 ghost use Rattle.old_read.specs.OldBody.{oldValueIn, badOldValue};
 use checks::cast::out_of_range;
 use method::Found;
-use words::signed;
-use words::word;
+use session_values::signed;
+use session_values::word;
 
 // The unit times the signed number that a word of 16 bits stands for, as a word of 32 bits.
 fn product(w: u32, unit: u32) -> u32

@@ -36,8 +36,8 @@ use Rattle.checks.specs.declared.Ruling.{Ruling}
 use Rattle.checks.specs.declared.Ruling.the-variants.{Refused, Allowed}
 use Rattle.checks.proofs.RuleLaws.{ruling-last, ruling-more, both-allowed, ruled-none}
 use Rattle.checks.proofs.CheckLaws.{cells-ruled, small-cell, within-both}
-use Rattle.whole.proofs.Signs.{below, above}
-use Rattle.puts.specs.Puts.{Put}
+use Rattle.signed_numbers.proofs.Signs.{below, above}
+use Rattle.text_out.specs.Puts.{Put}
 use Rattle.old_put.specs.OldPuts.{OldHeaderLength}
 use Rattle.old_put.proofs.PartLaws.{written-length}
 use Rattle.old_write.specs.OldWrites.{oldOffered, OldWriteOf, inexpressible, oldSliceRuling, OldRoomIf, OldRuledOf}

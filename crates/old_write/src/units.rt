@@ -6,7 +6,7 @@ ghost use Rattle.method.specs.Cast.{first};
 ghost use Rattle.method.specs.OldForm.{expressible as OldForm·expressible};
 ghost use Rattle.old_write.specs.OldWrites.{inexpressible};
 use method::Found;
-use whole::size32;
+use signed_numbers::size32;
 
 // Whether a value is expressible: by its size, since a quotient of a negative number is cut towards zero.
 fn expressible(v: i32, unit: u32) -> bool

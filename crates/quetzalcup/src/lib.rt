@@ -154,7 +154,7 @@ pub extern "C" fn quetz_write(
     }
     session_write::write(
         sides,
-        header::order_of(order),
+        session_header::order_of(order),
         settings,
         labels,
         values,

@@ -26,9 +26,9 @@ use Rattle.method.specs.OldProgram.{oldTaken, renewal}
 use Rattle.theory.specs.Sides.{Fit}
 use Rattle.theory.proofs.Sides.{fit, to}
 use Rattle.theory.proofs.Verdicts.{Judged, fine, faulty, judge, pass-all, no-fault, fault-no}
-use Rattle.puts.proofs.DecimalLaws.{most-digits}
-use Rattle.writes.specs.Lengths.{OrderLength}
-use Rattle.writes.proofs.LengthLaws.{order-big, order-little, header-long, written-length}
+use Rattle.text_out.proofs.DecimalLaws.{most-digits}
+use Rattle.session_bytes.specs.Lengths.{OrderLength}
+use Rattle.session_bytes.proofs.LengthLaws.{order-big, order-little, header-long, written-length}
 use Rattle.old_read.specs.OldReads.{oldLent, oldAsked, OldReadOf}
 use Rattle.old_read.specs.declared.OldSession.{OldSession}
 use Rattle.old_read.proofs.ReadLaws.{same-verdict, reading-passed}
@@ -37,9 +37,9 @@ use Rattle.session_write.specs.Writes.{offered, WriteOf}
 use Rattle.prints.specs.Prints.{bufferFor, largeRoom, oldBuffer}
 use Rattle.prints.proofs.Fronts.{buffer-for}
 use Rattle.prints.proofs.OldFronts.{renewal-refused, old-front-renews}
-use Rattle.respond.proofs.RespondLaws.{cast-eq}
-use Rattle.old_respond.specs.OldResponds.{OldIsRead}
-use Rattle.old_respond.proofs.OldRespondLaws.{reading-refused, values-long, read-passed, checked, in-range, cells-few, labels-long}
+use Rattle.answer_session.proofs.RespondLaws.{cast-eq}
+use Rattle.answer_old_session.specs.OldResponds.{OldIsRead}
+use Rattle.answer_old_session.proofs.OldRespondLaws.{reading-refused, values-long, read-passed, checked, in-range, cells-few, labels-long}
 use Rattle.renew.specs.Renews.{RenewOf, RenewProgramOf}
 
 renewal-passed : (room : ℕ) (o : Order) (t : Settings) (bs : List ℕ) → verdict oldReaderChecks (oldTaken room t bs) ≡ passed

@@ -2,7 +2,7 @@
 ghost use Prim.Native.Nat.{_≤_};
 ghost use lib.ListN.{length};
 ghost use Rattle.prints.specs.Prints.{bufferFor};
-ghost use Rattle.old_respond.specs.OldResponds.{OldIsRead};
+ghost use Rattle.answer_old_session.specs.OldResponds.{OldIsRead};
 ghost use Rattle.renew.specs.Renews.{RenewOf};
 use grid::place::cell_count;
 use method::Order;

@@ -27,10 +27,10 @@ use Rattle.method.specs.Rounds.{State, Turn, stalled, turned, End, solved, fail
 use Rattle.theory.proofs.Quiet.{quiet-zeros, quiet-right}
 use Rattle.smooth.proofs.After.{inAir-length, zeros-length}
 use Rattle.rounds.specs.declared.Plan.{Plan}
-use Rattle.trial.specs.declared.Tested.{Tested}
-use Rattle.trial.specs.declared.Tested.the-variants.{Passed, Failed}
-use Rattle.trial.specs.Trial.{tested}
-use Rattle.fields.specs.Fields.{Held, x-of, p-of, z-of, r-of, t-of}
+use Rattle.acceptance.specs.declared.Tested.{Tested}
+use Rattle.acceptance.specs.declared.Tested.the-variants.{Passed, Failed}
+use Rattle.acceptance.specs.Trial.{tested}
+use Rattle.cg_fields.specs.Fields.{Held, x-of, p-of, z-of, r-of, t-of}
 use Rattle.rounds.specs.Rounds.{castOf, Calm, stateOf, zNew, rhoNew, betaNew, pNew, scalarsNew, below, Scaled, Advanced, Ready, RunOf, EndOf}
 use Rattle.rounds.proofs.Turns.{turns, held, air-same, air-value}
 

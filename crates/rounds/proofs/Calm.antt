@@ -18,8 +18,8 @@ use Rattle.theory.proofs.Quiet.{quiet-inAir, quiet-cycle}
 use Rattle.smooth.specs.Entries.{InCells}
 use Rattle.cycle.specs.Rooms.{airFrom}
 use Rattle.rounds.specs.declared.Plan.{Plan}
-use Rattle.fields.specs.Entries.{Aimed}
-use Rattle.fields.specs.Fields.{x-of, p-of, z-of, r-of, t-of}
+use Rattle.cg_fields.specs.Entries.{Aimed}
+use Rattle.cg_fields.specs.Fields.{x-of, p-of, z-of, r-of, t-of}
 use Rattle.rounds.specs.Rounds.{stateOf, pNew, below, planSides, planLabels, Planned, Calm, Drawn, Rho, Applied, Scaled, Advanced}
 use Rattle.rounds.proofs.Turns.{air-listed}
 

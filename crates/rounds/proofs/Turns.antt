@@ -34,10 +34,10 @@ use Rattle.cycle.specs.Rooms.{Ready, Cycled, fieldsFrom, airFrom, AirAt}
 use Rattle.cycle.proofs.Laws.{part-first, lent-is, home-is, end-lent}
 use Rattle.cycle.proofs.Calls.{ready-first, first-air-asked, first-air, fields-most, zero-end, zero-part}
 use Rattle.rounds.specs.declared.Plan.{Plan}
-use Rattle.trial.specs.declared.Tested.{Tested}
-use Rattle.trial.specs.Trial.{tested}
-use Rattle.fields.specs.Entries.{Aimed}
-use Rattle.fields.specs.Fields.{Held, x-of, p-of, z-of, r-of, t-of}
+use Rattle.acceptance.specs.declared.Tested.{Tested}
+use Rattle.acceptance.specs.Trial.{tested}
+use Rattle.cg_fields.specs.Entries.{Aimed}
+use Rattle.cg_fields.specs.Fields.{Held, x-of, p-of, z-of, r-of, t-of}
 use Rattle.rounds.specs.Rounds.{stateOf, zNew, rhoNew, betaNew, pNew, scalarsNew, below, planSides, planLabels, Prepared, Planned, Calm, Drawn, Rho, Applied, Sigma, Scaled, Advanced}
 use Rattle.rounds.proofs.Parts.{put-length, put-here, put-before, put-after}
 

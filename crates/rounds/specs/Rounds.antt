@@ -22,7 +22,7 @@ use Rattle.levels.specs.Levels.{base}
 use Rattle.bands.specs.AllLists.{baseLabels}
 use Rattle.cycle.specs.Rooms as Rooms
 use Rattle.rounds.specs.declared.Plan.{Plan}
-use Rattle.fields.specs.Fields.{x-of, p-of, z-of, r-of, t-of}
+use Rattle.cg_fields.specs.Fields.{x-of, p-of, z-of, r-of, t-of}
 
 abbrev pub castOf : Sides → List ℕ → List ℤ → Cast
 castOf g ls vs = record { sides = g; labels = ls; values = vs }

@@ -9,8 +9,8 @@ ghost use mathlib.Core.Bool.{true};
 ghost use Rattle.method.specs.Cast.{cells};
 ghost use Rattle.method.specs.Rounds.{finite};
 ghost use Rattle.theory.specs.Quiet.{Quiet};
-ghost use Rattle.fields.specs.Fields.{Held, x-of, t-of};
-ghost use Rattle.trial.specs.Trial.{tested};
+ghost use Rattle.cg_fields.specs.Fields.{Held, x-of, t-of};
+ghost use Rattle.acceptance.specs.Trial.{tested};
 ghost use Rattle.rounds.specs.Rounds.{castOf, Calm, Advanced, Ready, RunOf, EndOf};
 use answers::Ended;
 use bands::lists::Lists;
@@ -35,13 +35,13 @@ fn test_x(
     values: &[i32],
     g: Sides,
     settings: Settings,
-) -> trial::Tested
+) -> acceptance::Tested
     requires { ⌜ Held g (now labels) (now room) × ((length (now values) ≡ cells g) × (settings .tolerance ≤ 1000000)) ⌝ }
     ensures { λ r. ⌜ r ≡ tested (castOf g (now (labels .entry)) (now (values .entry))) settings (x-of (cells g) (now (room .entry))) ⌝ }
 {
     let n = labels.len();
     let x = 0 * n;
-    trial::test(g, labels, values, &room[x..x + n], settings)
+    acceptance::test(g, labels, values, &room[x..x + n], settings)
 }
 
 // x + alpha·p, r - alpha·A p, with A p in t.
@@ -53,8 +53,8 @@ fn move_on(room: &mut [f64], labels: &[u8], g: Sides, alpha: f64)
     ensures { λ _. ⌜ Advanced g (now (labels .entry)) alpha (now (room .entry)) (now (room .exit)) ⌝ }
 {
     let n = labels.len();
-    fields::entries::advance(room, n, alpha);
-    fields::entries::reduce(room, n, alpha);
+    cg_fields::entries::advance(room, n, alpha);
+    cg_fields::entries::reduce(room, n, alpha);
 }
 
 // The rounds, from the room of the start: as many as the limit allows, each after a test, and a last test.
@@ -76,10 +76,10 @@ fn rounds(
     let mut rho = 0.0;
     while done < settings.rounds {
         match test_x(&room[..], labels, values, g, settings) {
-            trial::Tested::Passed(worst) => {
+            acceptance::Tested::Passed(worst) => {
                 return Ended::Accepted(done, worst);
             }
-            trial::Tested::Failed => {}
+            acceptance::Tested::Failed => {}
         }
         let q = scalars_of(room, bytes, words, plan, labels, g, done, rho);
         match step_of(q) {
@@ -94,8 +94,8 @@ fn rounds(
         done += 1;
     }
     match test_x(&room[..], labels, values, g, settings) {
-        trial::Tested::Passed(worst) => Ended::Accepted(done, worst),
-        trial::Tested::Failed => Ended::Unfinished(8, done),
+        acceptance::Tested::Passed(worst) => Ended::Accepted(done, worst),
+        acceptance::Tested::Failed => Ended::Unfinished(8, done),
     }
 }
 
@@ -113,6 +113,6 @@ pub fn run(
     requires { ⌜ Ready g (now labels) (now values) settings plan (now bytes) (now words) (length (now room)) ⌝ }
     ensures { λ r. ⌜ EndOf g (now (labels .entry)) (now (values .entry)) settings r (now (room .exit)) ⌝ }
 {
-    fields::start(room, labels, values, g);
+    cg_fields::start(room, labels, values, g);
     rounds(room, bytes, words, plan, labels, values, settings, g)
 }

@@ -6,11 +6,11 @@ ghost use Rattle.method.specs.Cast.{cells};
 ghost use Rattle.method.specs.Transfers.{value};
 ghost use Rattle.method.specs.Rounds.{dot, betaOf, usable, step};
 ghost use Rattle.theory.specs.Quiet.{Quiet};
-ghost use Rattle.fields.specs.Fields.{Held, p-of, z-of, r-of};
-ghost use Rattle.fields.specs.Entries.{Aimed};
+ghost use Rattle.cg_fields.specs.Fields.{Held, p-of, z-of, r-of};
+ghost use Rattle.cg_fields.specs.Entries.{Aimed};
 ghost use Rattle.rounds.specs.Rounds.{below, planSides, planLabels, Prepared, Planned, Calm, Drawn, Rho, Applied, Sigma, Scaled};
 use crate::Plan;
-use fields::entries::is_finite;
+use cg_fields::entries::is_finite;
 use method::Scalars;
 use method::Sides;
 use method::Step;
@@ -58,7 +58,7 @@ fn inner(room: &[f64], labels: &[u8], g: Sides, a: usize, b: usize) -> f64
     let n = labels.len();
     let c = a + n;
     let d = b + n;
-    fields::entries::dot(&room[a..c], &room[b..d], n)
+    cg_fields::entries::dot(&room[a..c], &room[b..d], n)
 }
 
 // z = cycle(r): the cycle is lent the room from z on, whose last element is spare and becomes the zero that entries
@@ -98,7 +98,7 @@ fn apply(room: &mut [f64], bytes: &[u8], words: &[u32], plan: Plan, labels: &[u8
     let plane = nx * (g.ny as usize);
     let zero = room.len() - 1;
     cycle::end_in_zero(room);
-    fields::entries::apply(room, air, n, nx, plane, zero);
+    cg_fields::entries::apply(room, air, n, nx, plane, zero);
 }
 
 // A p in t, and sigma = p·A p.
@@ -138,7 +138,7 @@ fn aim(
     let s = plan.lists;
     let air = cycle::level_air(words, s, 0);
     let n = labels.len();
-    fields::entries::aim(room, air, n, done, beta);
+    cg_fields::entries::aim(room, air, n, done, beta);
 }
 
 // A round's z, rho, beta, p, A p, sigma and alpha.

@@ -12,7 +12,7 @@ use Rattle.method.specs.Answers.{fault}
 use Rattle.checks.specs.Faults.{badLabelAt}
 use Rattle.checks.specs.Rulings.{rulingBy, firstOf}
 use Rattle.checks.specs.declared.Ruling.{Ruling}
-use Rattle.words.specs.Body.{badValueIn}
+use Rattle.session_values.specs.Body.{badValueIn}
 use Rattle.session_read.specs.Reads.{bodyRuling, contentRuling}
 
 pub ruled-found : (k : ℕ) (f x : Found) (p : Ruling) → p ≡ rulingBy k x → x ≡ f → p ≡ rulingBy k f

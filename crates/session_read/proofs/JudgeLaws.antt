@@ -18,9 +18,9 @@ use Rattle.method.specs.Form.{header, badLine, labelsIn, valuesIn, castIn}
 use Rattle.method.specs.Form as form
 use Rattle.method.specs.Answers.{fault, verdict}
 use Rattle.method.specs.Reading.{lineCheck, sideCheck, bodyCheck, roomCheck, contentChecks, readerChecks}
-use Rattle.header.specs.Lines.{named, HeaderOf, headerIn, wrongIn, startIn}
+use Rattle.session_header.specs.Lines.{named, HeaderOf, headerIn, wrongIn, startIn}
 use Rattle.checks.specs.Faults.{badLabelAt}
-use Rattle.words.specs.Body.{valueIn, badValueIn}
+use Rattle.session_values.specs.Body.{valueIn, badValueIn}
 use Rattle.theory.proofs.Firsts.{first-cong}
 use Rattle.theory.specs.Sides.{Fit}
 use Rattle.theory.proofs.Sides.{fit}
@@ -31,9 +31,9 @@ use Rattle.checks.specs.declared.Ruling.the-variants.{Refused as Refusedᴿ, Al
 use Rattle.theory.proofs.Verdicts.{fails-at, passes-on, fault-no, no-fault}
 use Rattle.checks.proofs.RuleLaws.{ruling-more, ruling-last, rulingIn, ruling-in, first-assoc, both-allowed, ruled-none}
 use Rattle.session_read.proofs.SizeLaws.{cells-few, short-by}
-use Rattle.header.specs.declared.Header.{Header}
-use Rattle.header.specs.declared.HeaderRead.{HeaderRead}
-use Rattle.header.specs.declared.HeaderRead.the-variants.{Wrong, Named}
+use Rattle.session_header.specs.declared.Header.{Header}
+use Rattle.session_header.specs.declared.HeaderRead.{HeaderRead}
+use Rattle.session_header.specs.declared.HeaderRead.the-variants.{Wrong, Named}
 use Rattle.session_read.specs.declared.Judged.the-variants.{Refused, Passed}
 
 -- ---- checks 3, 4, 5 of a header

@@ -18,13 +18,13 @@ use Rattle.method.specs.Form as form
 use Rattle.method.specs.Answers.{fault, passed, refused, verdict, refusal, done}
 use Rattle.method.specs.Rooms.{filled}
 use Rattle.method.specs.Reading.{Reading, lineCheck, sideCheck, bodyCheck, roomCheck, contentChecks, readerChecks, notRead, isRead, readingBy, reading}
-use Rattle.words.specs.Body.{valueIn}
+use Rattle.session_values.specs.Body.{valueIn}
 use Rattle.theory.specs.Sessions.{Bytes}
 use Rattle.theory.specs.Sides.{Fit}
 use Rattle.theory.proofs.Sides.{fit}
 use Rattle.session_read.specs.Reads.{FitIf, ReadOf, asked, takenOf, verdictOf, ReadyIf, JudgedOf}
 use Rattle.theory.proofs.Verdicts.{verdict-agree}
-use Rattle.header.specs.declared.Header.{Header}
+use Rattle.session_header.specs.declared.Header.{Header}
 use Rattle.session_read.specs.declared.Judged.{Judged}
 use Rattle.session_read.specs.declared.Taken.{Taken}
 use Rattle.session_read.specs.declared.Judged.the-variants.{Refused, Passed}

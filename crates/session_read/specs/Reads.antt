@@ -19,10 +19,10 @@ use Rattle.method.specs.Answers.{Verdict, passed, refused, verdict, fault, refu
 use Rattle.method.specs.Reading.{Reading, readerChecks, reading}
 use Rattle.checks.specs.Faults.{badLabelAt}
 use Rattle.checks.specs.Rulings.{rulingBy, firstOf}
-use Rattle.words.specs.Body.{badValueIn}
+use Rattle.session_values.specs.Body.{badValueIn}
 use Rattle.checks.specs.declared.Ruling.{Ruling}
-use Rattle.header.specs.Lines.{named}
-use Rattle.header.specs.declared.Header.{Header}
+use Rattle.session_header.specs.Lines.{named}
+use Rattle.session_header.specs.declared.Header.{Header}
 use Rattle.session_read.specs.declared.Judged.{Judged}
 use Rattle.session_read.specs.declared.Judged.the-variants.{Refused, Passed}
 use Rattle.session_read.specs.declared.Session.{Session}

@@ -5,7 +5,7 @@ ghost use lib.ListN.{length};
 ghost use Rattle.method.specs.Cast.{first};
 ghost use Rattle.checks.specs.Faults.{badLabelAt};
 ghost use Rattle.checks.specs.Rulings.{rulingBy};
-ghost use Rattle.words.specs.Body.{badValueIn};
+ghost use Rattle.session_values.specs.Body.{badValueIn};
 ghost use Rattle.session_read.specs.Reads.{bodyRuling, contentRuling};
 use checks::Ruling;
 use checks::cast::bad_label;
@@ -14,7 +14,7 @@ use checks::rule::earlier;
 use checks::rule::ruled;
 use method::Order;
 use method::Settings;
-use words::bad_value;
+use session_values::bad_value;
 
 // Check 4, of a body of n cells.
 fn judge_fourth(body: &[u8], n: usize) -> Ruling

@@ -2,10 +2,10 @@
 ghost use mathlib.Core.Path.{_≡_};
 ghost use Rattle.method.specs.Answers.{verdict};
 ghost use Rattle.method.specs.Reading.{contentChecks};
-ghost use Rattle.header.specs.Lines.{HeaderOf};
+ghost use Rattle.session_header.specs.Lines.{HeaderOf};
 ghost use Rattle.session_read.specs.Reads.{Bodied, JudgedOf, Sized, asked};
 ghost use Rattle.checks.specs.Rulings.{rulingOf};
-ghost use Rattle.header.specs.declared.HeaderRead.the-variants.{Named};
+ghost use Rattle.session_header.specs.declared.HeaderRead.the-variants.{Named};
 use crate::Judged;
 use crate::content::judge_content;
 use crate::sizes::judge_second;
@@ -13,9 +13,9 @@ use crate::sizes::judge_sides;
 use checks::Ruling;
 use checks::rule::earlier;
 use grid::place::cell_count;
-use header::Header;
-use header::HeaderRead;
-use header::line::rest;
+use session_header::Header;
+use session_header::HeaderRead;
+use session_header::line::rest;
 
 // Checks 3, 4 and 5, of what the header names and a body of n cells.
 fn judge_rest(bytes: &[u8], n: usize, h: Header) -> Ruling

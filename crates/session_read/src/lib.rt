@@ -5,20 +5,20 @@ mod sizes;
 
 ghost use mathlib.Core.Path.{_≡_};
 ghost use Rattle.method.specs.Reading.{reading};
-ghost use Rattle.header.specs.Lines.{HeaderOf};
+ghost use Rattle.session_header.specs.Lines.{HeaderOf};
 ghost use Rattle.session_read.specs.Reads.{FitIf, ReadOf, asked, takenOf};
 use answers::refusal;
 use grid::place::cell_count;
-use header::Header;
-use header::HeaderRead;
-use header::line::rest;
-use header::read_header;
 use judge::judge_session;
 use method::Answer;
 use method::Order;
 use method::Settings;
 use method::Sides;
-use words::store_values;
+use session_header::Header;
+use session_header::HeaderRead;
+use session_header::line::rest;
+use session_header::read_header;
+use session_values::store_values;
 
 // A session, judged: number and place of the first check that fails, or what the header names.
 enum Judged {

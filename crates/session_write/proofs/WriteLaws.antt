@@ -20,8 +20,8 @@ use Rattle.method.specs.Answers.{fault, passed, refused, verdict, refusal, done
 use Rattle.method.specs.Rooms.{filled}
 use Rattle.method.specs.Writing.{Writing, bytesOf, writerLengthsFit, writerChecks, writing}
 use Rattle.checks.specs.Faults.{cellRuling}
-use Rattle.puts.specs.Puts.{Put}
-use Rattle.writes.specs.Lengths.{HeaderLength}
+use Rattle.text_out.specs.Puts.{Put}
+use Rattle.session_bytes.specs.Lengths.{HeaderLength}
 use Rattle.session_write.specs.Writes.{offered, WriteOf, RoomIf, limitRuling, sliceRuling, RuledOf}
 use Rattle.checks.specs.declared.Ruling.{Ruling}
 use Rattle.checks.specs.declared.Ruling.the-variants.{Refused, Allowed}
@@ -31,7 +31,7 @@ use Rattle.theory.proofs.Verdicts.{verdict-agree, fault-no, fault-yes, no-fault
 use Rattle.checks.proofs.RuleLaws.{ruling-none, ruling-more, last-ruling, first-assoc, both-allowed, ruled-none}
 use Rattle.checks.proofs.CheckLaws.{cells-ruled}
 use Rattle.checks.specs.Rulings.{rulingOf, rulingBy, firstOf}
-use Rattle.writes.proofs.LengthLaws.{written-length}
+use Rattle.session_bytes.proofs.LengthLaws.{written-length}
 
 -- ---- 1 before 3, and an output that is just long enough
 pub limits-ruled : (s : Sides) (t : Settings) (p q o : Ruling) → o ≡ firstOf p q → p ≡ rulingBy 1 (fault (not (sidesFit s))) → q ≡ rulingBy 3 (fault (not (settingsFit t)))

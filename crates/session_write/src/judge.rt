@@ -16,7 +16,7 @@ use grid::place::cell_count;
 use method::Order;
 use method::Settings;
 use method::Sides;
-use writes::length::header_length;
+use session_bytes::length::header_length;
 
 // Checks 1 and 3, of the sides and the settings.
 fn judge_limits(sides: Sides, settings: Settings) -> Ruling

@@ -9,7 +9,7 @@ use method::Answer;
 use method::Order;
 use method::Settings;
 use method::Sides;
-use writes::put_session;
+use session_bytes::put_session;
 
 // What the writer hands back.
 #[repr(C)]

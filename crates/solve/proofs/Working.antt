@@ -28,8 +28,8 @@ use Rattle.answers.specs.declared.Measured.{Measured}
 use Rattle.answers.specs.declared.Worst.{Worst}
 use Rattle.answers.specs.Ends.{endOf}
 use Rattle.worst.specs.Worst.{Sought, worstOf}
-use Rattle.walks.specs.Search.{Roomy}
-use Rattle.trial.specs.Trial as Trial
+use Rattle.distances.specs.Search.{Roomy}
+use Rattle.acceptance.specs.Trial as Trial
 use Rattle.bands.proofs.Calls.{words-enough}
 use Rattle.theory.proofs.Verdicts.{fails-at, passes-on}
 use Rattle.checks.proofs.RuleLaws.{ruling-none}

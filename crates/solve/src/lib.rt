@@ -43,7 +43,7 @@ pub fn run(
     match rounds::run(floats, bytes, words, plan, labels, values, settings, sides) {
         Ended::Accepted(rounds, worst) => {
             let n = labels.len();
-            trial::write_ticks(pressures, sides, labels, values, &floats[0..n]);
+            acceptance::write_ticks(pressures, sides, labels, values, &floats[0..n]);
             let at = worst::worst_of(sides, labels, values, &floats[0..n], worst);
             accepted(rounds, worst, at, of)
         }
@@ -65,7 +65,7 @@ fn work(
     requires { ⌜ Checked sides (now labels) (now values) settings (length (now pressures)) (length (now bytes)) (length (now floats)) (length (now words)) ⌝ }
     ensures { λ r. ⌜ Worked (castOf sides (now (labels .entry)) (now (values .entry))) settings (now (pressures .entry)) r (now (pressures .exit)) ⌝ }
 {
-    let walked = walks::distances(words, labels, sides);
+    let walked = distances::distances(words, labels, sides);
     let sealed = walked.sealed;
     match sealed {
         Found::At(place) => refusal(7, place),

@@ -18,7 +18,7 @@ use Rattle.laws.proofs.Lists.{over-up}
 use Rattle.laws.proofs.Zed.{abs-add, abs-sub}
 use Rattle.method.specs.declared.Sides.{Sides}
 use Rattle.method.specs.Cast.{labelAt, noWall, field, around, degree, sumAround, residual, cells, isAir, judged, worst}
-use Rattle.whole.proofs.Laws.{wholes, abs-product, abs-32}
+use Rattle.signed_numbers.proofs.Laws.{wholes, abs-product, abs-32}
 use Rattle.ticks.specs.declared.Faces.{Faces}
 use Rattle.ticks.specs.Faces.{countStep, sumStep, Visited, Gathered, Residual}
 use Rattle.ticks.specs.Worst.{worstStep}

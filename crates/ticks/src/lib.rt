@@ -17,5 +17,8 @@ pub fn residual_of(source: i64, sum: i64, d: u32, own: i64) -> i64
     requires { ⌜ (natAbs source ≤ 2 ^ 31) × ((natAbs sum ≤ 2 ^ 44) × ((d ≤ 6) × (natAbs own ≤ 2 ^ 41))) ⌝ }
     ensures { λ r. ⌜ r ≡ source +ᶻ sum -ᶻ pos d *ᶻ own ⌝ }
 {
-    whole::minus(whole::plus(source, sum), whole::times(d, own))
+    signed_numbers::minus(
+        signed_numbers::plus(source, sum),
+        signed_numbers::times(d, own),
+    )
 }

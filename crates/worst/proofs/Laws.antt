@@ -23,9 +23,9 @@ use Rattle.theory.proofs.Firsts.{FirstAt, Search, found, none, search-first, No
 use Rattle.grid.proofs.Steps.{cells-most}
 use Rattle.answers.specs.declared.Worst.{Worst}
 use Rattle.ticks.specs.Faces.{Residual}
-use Rattle.trial.specs.Trial.{Asked}
-use Rattle.trial.specs.Cells.{roundedOn}
-use Rattle.whole.proofs.Laws.{wholes}
+use Rattle.acceptance.specs.Trial.{Asked}
+use Rattle.acceptance.specs.Cells.{roundedOn}
+use Rattle.signed_numbers.proofs.Laws.{wholes}
 use Rattle.worst.specs.Worst.{castOf, Sought, worstOf}
 
 -- ---- one cell

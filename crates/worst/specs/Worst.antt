@@ -6,8 +6,8 @@ use lib.IntN.{ℤ}
 use lib.Ieee.{Float}
 use Rattle.method.specs.declared.Sides.{Sides}
 use Rattle.method.specs.Cast.{Cast, worst, worstCell, worstValue}
-use Rattle.trial.specs.Trial.{Asked}
-use Rattle.trial.specs.Cells.{roundedOn}
+use Rattle.acceptance.specs.Trial.{Asked}
+use Rattle.acceptance.specs.Cells.{roundedOn}
 use Rattle.answers.specs.declared.Worst.{Worst}
 
 abbrev pub castOf : Sides → List ℕ → List ℤ → Cast

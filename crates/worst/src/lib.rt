@@ -2,13 +2,13 @@
 ghost use mathlib.Core.Path.{_≡_};
 ghost use Prim.Native.Nat.{_<_};
 ghost use Rattle.method.specs.Cast.{cells, first, isWorst};
-ghost use Rattle.trial.specs.Cells.{roundedOn};
+ghost use Rattle.acceptance.specs.Cells.{roundedOn};
 ghost use Rattle.worst.specs.Worst.{castOf, Sought, worstOf};
+use acceptance::residual_at;
 use answers::Worst;
 use grid::near::label_at;
 use method::Found;
 use method::Sides;
-use trial::residual_at;
 
 // Whether c is an air cell whose residual has the worst size.
 fn is_worst(g: Sides, labels: &[u8], values: &[i32], x: &[f64], c: usize, worst: u32) -> bool
@@ -16,7 +16,7 @@ fn is_worst(g: Sides, labels: &[u8], values: &[i32], x: &[f64], c: usize, worst:
     ensures { λ r. ⌜ r ≡ isWorst (castOf g (now (labels .entry)) (now (values .entry))) (roundedOn g (now (labels .entry)) (now (values .entry)) (now (x .entry))) c ⌝ }
 {
     if label_at(labels, c) == 0 {
-        return whole::size(residual_at(g, labels, values, x, c)) == worst as u64;
+        return signed_numbers::size(residual_at(g, labels, values, x, c)) == worst as u64;
     }
     false
 }
@@ -43,7 +43,7 @@ pub fn worst_of(g: Sides, labels: &[u8], values: &[i32], x: &[f64], worst: u32) 
 {
     match worst_cell(g, labels, values, x, worst) {
         Found::At(cell) => {
-            let left = whole::narrow(residual_at(g, labels, values, x, cell as usize));
+            let left = signed_numbers::narrow(residual_at(g, labels, values, x, cell as usize));
             Worst { cell, left }
         }
         Found::Nowhere => Worst { cell: 0, left: 0 },

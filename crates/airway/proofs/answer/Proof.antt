@@ -2,7 +2,7 @@
 use native.Mathlib.Omega.{arith}
 use borrow.Author.Needs.{needs}
 use Rattle.method.specs.Program.{programRoom}
-use Rattle.respond.proofs.FrontLaws.{part-long, at-limit}
+use Rattle.answer_session.proofs.FrontLaws.{part-long, at-limit}
 use Rattle.airway.proofs.Laws.{program-put}
 use Rattle.airway.proofs.answer.Statement.{statement}
 use Rattle.airway.proofs.answer.Tie as tie

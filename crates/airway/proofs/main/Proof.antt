@@ -4,7 +4,7 @@ use native.Mathlib.Omega.{arith}
 use borrow.Author.Needs.{needs}
 use Rattle.method.specs.Program.{programRoom}
 use Rattle.prints.proofs.Fronts.{input-room}
-use Rattle.respond.proofs.FrontLaws.{part-long, rooms-for}
+use Rattle.answer_session.proofs.FrontLaws.{part-long, rooms-for}
 use Rattle.airway.proofs.main.Statement.{statement}
 use Rattle.airway.proofs.main.Tie as tie
 

@@ -2,7 +2,7 @@
 use mathlib.Core.Path.{sym}
 use borrow.Author.Needs.{needs}
 use Rattle.prints.proofs.Fronts.{large-room}
-use Rattle.respond.proofs.FrontLaws.{part-long, at-limit, front-put}
+use Rattle.answer_session.proofs.FrontLaws.{part-long, at-limit, front-put}
 use Rattle.airway_large.proofs.answer.Statement.{statement}
 use Rattle.airway_large.proofs.answer.Tie as tie
 

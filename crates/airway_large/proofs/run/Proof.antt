@@ -1,6 +1,6 @@
 -- `airway_large::run` meets its contract: what was read is answered, and just the print is written. Assumes nothing.
 use borrow.Author.Needs.{needs}
-use Rattle.respond.proofs.FrontLaws.{part-long}
+use Rattle.answer_session.proofs.FrontLaws.{part-long}
 use Rattle.airway_large.proofs.run.Statement.{statement}
 use Rattle.airway_large.proofs.run.Tie as tie
 

@@ -1,8 +1,8 @@
 -- `airway_old::answer` meets its contract: what `respond_old` puts, with the room of the greatest casts. Assumes
 -- nothing.
 use borrow.Author.Needs.{needs}
-use Rattle.respond.proofs.FrontLaws.{part-long, at-limit}
-use Rattle.old_respond.proofs.OldFrontLaws.{old-front-put}
+use Rattle.answer_session.proofs.FrontLaws.{part-long, at-limit}
+use Rattle.answer_old_session.proofs.OldFrontLaws.{old-front-put}
 use Rattle.airway_old.proofs.answer.Statement.{statement}
 use Rattle.airway_old.proofs.answer.Tie as tie
 

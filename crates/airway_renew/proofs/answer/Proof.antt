@@ -1,6 +1,6 @@
 -- `airway_renew::answer` meets its contract: what `renew` writes, with the room of the greatest casts. Assumes nothing.
 use borrow.Author.Needs.{needs}
-use Rattle.respond.proofs.FrontLaws.{part-long}
+use Rattle.answer_session.proofs.FrontLaws.{part-long}
 use Rattle.renew.proofs.RenewLaws.{kept-room, renew-front}
 use Rattle.airway_renew.proofs.answer.Statement.{statement}
 use Rattle.airway_renew.proofs.answer.Tie as tie

@@ -1,7 +1,7 @@
 -- `airway_renew::run` meets its contract: what was read is put in the new form, and just that is written. Assumes
 -- nothing.
 use borrow.Author.Needs.{needs}
-use Rattle.respond.proofs.FrontLaws.{part-long}
+use Rattle.answer_session.proofs.FrontLaws.{part-long}
 use Rattle.airway_renew.proofs.run.Statement.{statement}
 use Rattle.airway_renew.proofs.run.Tie as tie
 

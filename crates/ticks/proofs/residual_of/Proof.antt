@@ -4,7 +4,7 @@ use mathlib.Core.Path.{_≡_, ap₂, _∙_}
 use native.Mathlib.Omega.{arith}
 use lib.IntN.{pos, natAbs}
 use Rattle.laws.specs.Whole.{_+ᶻ_, _-ᶻ_, _*ᶻ_}
-use Rattle.whole.proofs.Laws.{wholes}
+use Rattle.signed_numbers.proofs.Laws.{wholes}
 use Rattle.ticks.proofs.Laws.{residual-fits}
 use Rattle.ticks.proofs.residual_of.Statement.{statement}
 use Rattle.ticks.proofs.residual_of.Tie as tie

@@ -4,7 +4,7 @@ use borrow.Author.Needs.{needs}
 use lib.ListN.{length}
 use Rattle.method.specs.Cast.{isWorst}
 use Rattle.theory.proofs.Firsts.{None}
-use Rattle.trial.specs.Cells.{roundedOn}
+use Rattle.acceptance.specs.Cells.{roundedOn}
 use Rattle.worst.specs.Worst.{castOf}
 use Rattle.worst.proofs.Laws.{few, searching}
 use Rattle.worst.proofs.worst_cell.Statement.{statement}

@@ -5,7 +5,7 @@ use borrow.Author.Needs.{needs}
 use lib.IntN.{natAbs}
 use mir.Syntax.{w32}
 use mir.Facts.{toZ-ofZ}
-use Rattle.whole.proofs.Laws.{wholes}
+use Rattle.signed_numbers.proofs.Laws.{wholes}
 use Rattle.worst.proofs.Laws.{found-below, found-air, found-small, found-is, nothing-is}
 use Rattle.worst.proofs.worst_of.Statement.{statement}
 use Rattle.worst.proofs.worst_of.Tie as tie

@@ -2,7 +2,7 @@
 use Prim.Native.Nat.{_≤_, _-_}
 use mathlib.Core.Path.{_≡_}
 use lib.ListN.{length}
-use Rattle.words.proofs.WordLaws.{Stored}
+use Rattle.session_values.proofs.WordLaws.{Stored}
 use Rattle.old_read.specs.OldBody.{oldValueIn}
 use Rattle.old_read.proofs.ValueLaws.{storing}
 use Rattle.old_read.proofs.values.store_values.Statement.{statement}
