@@ -158,7 +158,7 @@ def cast_sessions(separate, rng, count):
         # what the checker computes grows with cells and rounds: few of the largest show as much as many
         if cells * rounds > LARGE:
             large += 1
-            if large > count // 10:
+            if large > max(6, count // 10):
                 continue
         if answer == 9 and seen.get("stall and limit", 0) < 2:
             seen["stall and limit"] = seen.get("stall and limit", 0) + 1
