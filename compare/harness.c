@@ -34,6 +34,9 @@ uint32_t quetz_test_cycle(quetz_sides sides, uint32_t levels, uint32_t times,
 /* depth, and the first sealed cell, of a cast whose sides and lengths fit; else all 0 */
 test_walk quetz_test_walk(quetz_sides sides, const uint8_t *labels, size_t labels_length, uint32_t *words, size_t words_length);
 
+/* the label part of a session that is read with room for so many values, copied to the front of the output; how long it is */
+size_t quetz_test_labels(const uint8_t *session, size_t session_length, size_t room, uint8_t *output, size_t output_length);
+
 /* the label part of an old session that is read with room for so many values, copied to the front of the output; how long it is */
 size_t quetz_test_old_labels(quetz_settings settings, const uint8_t *session, size_t session_length, size_t room, uint8_t *output, size_t output_length);
 
@@ -471,6 +474,8 @@ static void reread_session(const uint8_t *session, size_t length) {
     quetz_session s = quetz_read(bytes, length, values, MOST_CELLS);
     size_t n = s.answer.number == 0 ? (size_t)s.sides.nx * s.sides.ny * s.sides.nz : 0;
     const uint8_t *labels = bytes + s.start;
+    uint8_t *part = lend(length);
+    size_t found = quetz_test_labels(bytes, length, MOST_CELLS, part, length);
     short_answer(s.answer);
     line("nx=", s.sides.nx);
     line("ny=", s.sides.ny);
@@ -479,10 +484,10 @@ static void reread_session(const uint8_t *session, size_t length) {
     line("tolerance=", s.settings.tolerance);
     line("levels=", s.settings.levels);
     line("rounds=", s.settings.rounds);
-    line("labels=", n);
+    line("labels=", found);
     if (s.answer.number == 0) {
-        for (size_t i = 0; i < n; i++) {
-            line("label=", labels[i]);
+        for (size_t i = 0; i < found; i++) {
+            line("label=", part[i]);
         }
         for (size_t i = 0; i < n; i++) {
             printf("value=%" PRId32 "\n", values[i]);

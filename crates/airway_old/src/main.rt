@@ -22,7 +22,7 @@ const LIMIT: usize = 32768;
 
 const BUFFER: usize = 3 * LIMIT + 43;
 
-const PRINT: usize = 26 * LIMIT + 256;
+const PRINT: usize = 26 * LIMIT + 160;
 
 // The answer to the session whose front was read into the buffer is put at the front of the output, and its length
 // comes back.

@@ -45,7 +45,7 @@ fn answer(
 
 // The lines of a refusal are written to standard error.
 fn refuse(found: Answer) {
-    let mut text = [0u8; 256];
+    let mut text = [0u8; 160];
     let none = [0i64; 1];
     let n = show(found, &none[..0], &mut text);
     io::write_all(STDERR_FILENO, &text[..n]);

@@ -41,7 +41,7 @@ use Rattle.cycle.specs.Strokes.{Ended, Put}
 use Rattle.cycle.specs.Rooms.{Ready, cellsOf, cycleFrom, fieldsFrom, Cycled}
 use Rattle.cycle.proofs.Laws.{put-then}
 use Rattle.cycle.proofs.Calls.{prepared-from, ready-first, fields-most, zero-end, zero-part, cycled-end}
-use Rattle.library_tests.specs.Run.{Asked, CycleOf, sealedAs, WalkOf, tickAs, TickOf, labelPart, LabelsOf}
+use Rattle.library_tests.specs.Run.{Asked, CycleOf, sealedAs, WalkOf, tickAs, TickOf, PartOf}
 use Rattle.text_out.specs.Puts as Puts
 use Rattle.library_tests.specs.declared.Walk.{Walk}
 use Rattle.library_tests.specs.declared.Ticked.{Ticked}
@@ -159,11 +159,14 @@ pub tick-none : (x : Float) (t : Tick) → t ≡ tick x → t ≡ Refused → Ti
 unfolding tickAs
 tick-none x t e q = record { is = rw (← e, q) refl }
 
-module _ (t : Settings) (bytes : List ℕ) (room : ℕ) (old ls : List ℕ) (e : ls ≡ labelPart t bytes room) where
-  pub labels-put : (r : ℕ) (new : List ℕ) → Puts.Put ls old 0 new r → LabelsOf t bytes room old r new
-  labels-put r new z = record { found = λ h. rw e at z }
+module _ (part old : List ℕ) where
+  pub part-put : (r : ℕ) (new : List ℕ) → Puts.Put part old 0 new r → PartOf part old r new
+  part-put r new z = record { found = λ h. z }
 
-  pub labels-short : length old < length ls → LabelsOf t bytes room old 0 old
-  labels-short h = record { found = λ l. absurd (omega (arith, ap length e)) }
+  pub part-short : length old < length part → PartOf part old 0 old
+  part-short h = record { found = λ l. absurd (omega arith) }
 
-pub ruleset calling = (needs, labels-put, labels-short, tick-none, sides-known, few-cells, asked-is, not-run, is-run, not-walked, roomy-is, walked-sealed, walked-open)
+  pub part-same : (ls : List ℕ) (r : ℕ) (new : List ℕ) → ls ≡ part → PartOf ls old r new → PartOf part old r new
+  part-same ls r new e z = rw e at z
+
+pub ruleset calling = (needs, part-put, part-short, part-same, tick-none, sides-known, few-cells, asked-is, not-run, is-run, not-walked, roomy-is, walked-sealed, walked-open)

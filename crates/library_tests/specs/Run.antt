@@ -16,7 +16,9 @@ use Rattle.method.specs.declared.Tick.the-variants.{Whole, Refused}
 use Rattle.method.specs.Cycle.{cycle}
 use Rattle.method.specs.Ticks.{tick}
 use Rattle.method.specs.declared.Settings.{Settings}
+use Rattle.method.specs.Reading.{reading}
 use Rattle.method.specs.OldForm.{oldReading}
+use Rattle.session_read.specs.Reads.{asked}
 use Rattle.old_read.specs.OldReads.{oldAsked}
 use Rattle.text_out.specs.Puts as Put
 use Rattle.method.specs.Rooms.{byteNeed}
@@ -62,8 +64,12 @@ pub record TickOf (x : Float) (r : Ticked) : Type 0 where
 
 -- THE PROMISE of quetz_test_old_labels: where the output is long enough, the label part stands at its front, and its
 -- length comes back
-abbrev pub labelPart : Settings → List ℕ → ℕ → List ℕ
-labelPart t bytes room = oldReading (oldAsked t bytes room) .labels
+abbrev pub labelPart : List ℕ → ℕ → List ℕ
+labelPart bytes room = reading (asked bytes room) .labels
 
-pub record LabelsOf (t : Settings) (bytes : List ℕ) (room : ℕ) (old : List ℕ) (r : ℕ) (new : List ℕ) : Type 0 where
-  pub found : length (labelPart t bytes room) ≤ length old → Put.Put (labelPart t bytes room) old 0 new r
+abbrev pub oldLabelPart : Settings → List ℕ → ℕ → List ℕ
+oldLabelPart t bytes room = oldReading (oldAsked t bytes room) .labels
+
+-- a part stands at the front of the output, where that is long enough
+pub record PartOf (part old : List ℕ) (r : ℕ) (new : List ℕ) : Type 0 where
+  pub found : length part ≤ length old → Put.Put part old 0 new r

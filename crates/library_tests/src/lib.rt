@@ -10,7 +10,7 @@ ghost use Rattle.levels.specs.Levels.{base};
 ghost use Rattle.smooth.specs.Fields.{u-of, b-of};
 ghost use Rattle.cycle.specs.Strokes.{Ended};
 ghost use Rattle.cycle.specs.Rooms.{Ready, Cycled, fieldsFrom};
-ghost use Rattle.library_tests.specs.Run.{Asked, CycleOf, WalkOf, TickOf, LabelsOf};
+ghost use Rattle.library_tests.specs.Run.{Asked, CycleOf, WalkOf, TickOf, PartOf, labelPart, oldLabelPart};
 use bands::lists::Lists;
 use checks::cast::sides_fit;
 use grid::place::cell_count;
@@ -207,8 +207,25 @@ pub extern "C" fn quetz_test_tick(x: f64) -> Ticked
     }
 }
 
-// The label part of an old session that is read with room for so many values, copied to the front of the output: how
-// long it is, or 0 where the output is too short.
+// A part, copied to the front of the output: how long it is, or 0 where the output is too short.
+fn put_part(part: &[u8], output: &mut [u8]) -> usize
+    ensures { λ r. ⌜ PartOf (now (part .entry)) (now (output .entry)) r (now (output .exit)) ⌝ }
+{
+    if output.len() < part.len() {
+        return 0;
+    }
+    text_out::put_bytes(output, 0, part)
+}
+
+// The label part of a session that is read with room for so many values.
+#[no_mangle]
+pub extern "C" fn quetz_test_labels(bytes: &[u8], room: usize, output: &mut [u8]) -> usize
+    ensures { λ r. ⌜ PartOf (labelPart (now (bytes .entry)) room) (now (output .entry)) r (now (output .exit)) ⌝ }
+{
+    put_part(session_read::labels(bytes, room), output)
+}
+
+// The label part of an old session that is read with room for so many values.
 #[no_mangle]
 pub extern "C" fn quetz_test_old_labels(
     settings: Settings,
@@ -216,11 +233,7 @@ pub extern "C" fn quetz_test_old_labels(
     room: usize,
     output: &mut [u8],
 ) -> usize
-    ensures { λ r. ⌜ LabelsOf settings (now (bytes .entry)) room (now (output .entry)) r (now (output .exit)) ⌝ }
+    ensures { λ r. ⌜ PartOf (oldLabelPart settings (now (bytes .entry)) room) (now (output .entry)) r (now (output .exit)) ⌝ }
 {
-    let labels = old_read::old_labels(settings, bytes, room);
-    if output.len() < labels.len() {
-        return 0;
-    }
-    text_out::put_bytes(output, 0, labels)
+    put_part(old_read::old_labels(settings, bytes, room), output)
 }

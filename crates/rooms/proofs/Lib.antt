@@ -1,3 +1,2 @@
 -- Laws of clearing and of parts that are lent, which the crates above cite too.
 pub mod Clears
-pub mod Parts

@@ -1,9 +1,8 @@
 // The solver's rooms: how much of each a cast of n cells needs, and how it is handed back. One loop for each kind of
 // element, of which all clearing is made.
 ghost use mathlib.Core.Path.{_≡_};
-ghost use mathlib.Core.List.{_++_};
-ghost use Prim.Native.Nat.{_+_, _≤_};
-ghost use lib.ListN.{length, take, drop};
+ghost use Prim.Native.Nat.{_≤_};
+ghost use lib.ListN.{length};
 ghost use Rattle.laws.specs.Binary64.{+0};
 ghost use Rattle.method.specs.Rooms.{byteNeed, floatNeed, wordNeed, cleared};
 
@@ -65,14 +64,6 @@ pub fn clear_words(room: &mut [u32], n: usize)
         room[i] = 0;
         i += 1;
     }
-}
-
-// The n binary64 from a place on become +0.0.
-pub fn clear_floats_from(room: &mut [f64], from: usize, n: usize)
-    requires { ⌜ from + n ≤ length (now room) ⌝ }
-    ensures { λ _. ⌜ now (room .exit) ≡ take from (now (room .entry)) ++ cleared n +0 (drop from (now (room .entry))) ⌝ }
-{
-    clear_floats(&mut room[from..], n);
 }
 
 // The needed part of each room, handed back as zeros.

@@ -6,18 +6,14 @@ use Rattle.library_tests.proofs.quetz_test_old_labels.Tie as tie
 old-labels-requires : tie.Need-old-labels-requires
 old-labels-requires c κs = search calling
 
-returns : tie.Need-returns
-returns c = search calling
-
-put-bytes-requires : tie.Need-put-bytes-requires
-put-bytes-requires c κs = search calling
+put-part-requires : tie.Need-put-part-requires
+put-part-requires c κs = search calling
 
 same-length : tie.Need-same-length
 same-length c = search calling
 
-returns-2 : tie.Need-returns-2
-returns-2 c = search calling
+returns : tie.Need-returns
+returns c = search calling
 
 pub quetz-test-old-labels-spec : {M : Type 1} → statement M
-quetz-test-old-labels-spec =
-    tie.close (tie.spec old-labels-requires returns put-bytes-requires same-length returns-2)
+quetz-test-old-labels-spec = tie.close (tie.spec old-labels-requires put-part-requires same-length returns)
