@@ -95,11 +95,11 @@ def tokens(text):
 
 def replace(text, table, comments, lemmas=()):
     """The text with the table's names, each as a whole token; a dash in a comment is English, but for what stands in backticks.
-    Names of lemmas are respelled where they stand alone, and not as a part of a path."""
+    Names of lemmas without a dash are respelled where they stand alone, and not as a part of a path."""
 
     def one(m):
         t = m[0]
-        if t in lemmas and "." not in (m.string[m.start() - 1 : m.start()], m.string[m.end() : m.end() + 1]):
+        if t in lemmas and ("-" in t or "." not in (m.string[m.start() - 1 : m.start()], m.string[m.end() : m.end() + 1])):
             return lemmas[t]
         return table.get(t, t)
 

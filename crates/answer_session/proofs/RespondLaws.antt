@@ -21,11 +21,11 @@ use Rattle.method.specs.declared.Sides.{Sides}
 use Rattle.method.specs.declared.Settings.{Settings}
 use Rattle.method.specs.declared.Found.TheVariants.{Nowhere, At}
 use Rattle.method.specs.Cast.{Cast, between, cells, sides_fit}
-use Rattle.method.specs.Form.{header_of, header, labels_in_lem, values_in, cast_in, value_read}
+use Rattle.method.specs.Form.{header_of, header, labels_in, values_in, cast_in, value_read}
 use Rattle.method.specs.Answers.{passed, verdict, refusal, done}
 use Rattle.method.specs.Rooms.{filled, byte_need, float_need, word_need}
 use Rattle.method.specs.Solving.{Asked, lengths_fit, solving}
-use Rattle.method.specs.Reading.{Reading, line_check, side_check, body_check, room_check, content_checks, reader_checks, not_read, is_read_lem, reading}
+use Rattle.method.specs.Reading.{Reading, line_check, side_check, body_check, room_check, content_checks, reader_checks, not_read, is_read, reading}
 use Rattle.method.specs.Program.{program_checks, print, shown, printed}
 use Rattle.method.specs.Program as program
 use Rattle.theory.specs.Sides.{Fit}
@@ -140,7 +140,7 @@ module _ (limit : ℕ) (bs : List ℕ) (old new : List ℤ) (s : Session) (z : R
 
   pub refused_put : (qs : List ℤ) (w u : List ℕ) (j : ℕ) → (s.answer.number ≡ 0 → ⊥) → length qs ≤ limit → PutShort (print_room (length qs)) (print s.answer qs) w 0 u j
       → PutShort (print_room limit) (printed limit bs) w 0 u j
-  unfolding is_read_lem not_read done refusal reader_checks line_check side_check body_check room_check content_checks
+  unfolding is_read not_read done refusal reader_checks line_check side_check body_check room_check content_checks
   refused_put qs w u j x k p = go (judge reader_checks lent)
     where
       go : Judged reader_checks lent → PutShort (print_room limit) (printed limit bs) w 0 u j
@@ -151,10 +151,10 @@ module _ (limit : ℕ) (bs : List ℕ) (old new : List ℤ) (s : Session) (z : R
           (printed_refused limit bs num place (same_verdict limit bs old e l ∙ v) ∙ print_other (refusal num place) [] qs (f 1 11 (omega arith)).0 ∙ ap (λ r. print r qs) (sym a)) k p
 
   pub read_passed : s.answer.number ≡ 0 → IsRead limit bs s.sides s.settings new
-  unfolding is_read_lem filled
+  unfolding is_read filled
   read_passed q =
       let v : verdict reader_checks lent ≡ passed = read_0 lent (ap (λ r. r.number) (sym z.answer) ∙ q) in
-      let is : reading lent ≡ is_read_lem lent = reading_passed lent v in
+      let is : reading lent ≡ is_read lent = reading_passed lent v in
       let g : s.sides ≡ (header bs).sides = z.sides ∙ ap (λ r. r.header.sides) is in
       record {
         free = e;
@@ -166,10 +166,10 @@ module _ (limit : ℕ) (bs : List ℕ) (old new : List ℤ) (s : Session) (z : R
       }
 
   pub read_labels : (x : HeaderRead) → HeaderOf bs x → s.answer.number ≡ 0 → LabelsAt bs s.sides s.start
-  unfolding is_read_lem reader_checks line_check side_check body_check header_in wrong_in start_in labels_in_lem
+  unfolding is_read reader_checks line_check side_check body_check header_in wrong_in start_in labels_in
   read_labels x h q =
       let v : verdict reader_checks lent ≡ passed = read_0 lent (ap (λ r. r.number) (sym z.answer) ∙ q) in
-      let is : reading lent ≡ is_read_lem lent = reading_passed lent v in
+      let is : reading lent ≡ is_read lent = reading_passed lent v in
       go x h (all_pass reader_checks lent v) (z.sides ∙ ap (λ r. r.header.sides) is) (z.start ∙ ap (λ r. r.start) is)
     where
       never : {k : ℕ} → At k ≡ Nowhere → ⊥
@@ -209,8 +209,8 @@ module _ (limit : ℕ) (bs : List ℕ) (s : Sides) (t : Settings) (vs : List ℤ
   unfolding program_checks body_check
   body_long = eqb-true (length (header bs).body) (5 * cells (header bs).sides) (no_fault (eqb (length (header bs).body) (5 * cells (header bs).sides)) checked.1.1.1.0)
 
-  labels_long : length (labels_in_lem (header bs)) ≡ cells (header bs).sides
-  unfolding labels_in_lem
+  labels_long : length (labels_in (header bs)) ≡ cells (header bs).sides
+  unfolding labels_in
   labels_long = length-take-le (cells (header bs).sides) (header bs).body (omega (arith, body_long))
 
   module _ (ps : List ℤ) (bytes : List ℕ) (floats : List Float) (words out : List ℕ) (room : Roomy limit (length vs) (length ps) (length bytes) (length floats) (length words) (length out))
@@ -243,7 +243,7 @@ module _ (limit : ℕ) (bs : List ℕ) (s : Sides) (t : Settings) (vs : List ℤ
       pub part-within : start + n ≤ length bs
       part-within = omega (arith, c, at.within)
 
-      labels_are : take (start + n - start) (drop start bs) ≡ labels_in_lem (header bs)
+      labels_are : take (start + n - start) (drop start bs) ≡ labels_in (header bs)
       labels_are = let m : start + n - start ≡ cells s = omega (arith, c) in ap (λ k. take k (drop start bs)) m ∙ at.are
 
       abbrev labels : List ℕ
@@ -267,7 +267,7 @@ module _ (limit : ℕ) (bs : List ℕ) (s : Sides) (t : Settings) (vs : List ℤ
 
       same-cast : cast_of s labels (take n vs) ≡ cast_in (header bs)
       unfolding cast_in
-      same-cast = cast_eq s (header bs).sides labels (labels_in_lem (header bs)) (take n vs) (values_in (header bs)) z.sides labels_are (ap (λ k. take k vs) c ∙ z.values)
+      same-cast = cast_eq s (header bs).sides labels (labels_in (header bs)) (take n vs) (values_in (header bs)) z.sides labels_are (ap (λ k. take k vs) c ∙ z.values)
 
       same-called : called ≡ record { cast = cast_in (header bs); settings = (header bs).settings; pressures = take n ps; bytes = bytes; floats = floats; words = words }
       same-called = ap₂ (λ k x. record { cast = k; settings = x; pressures = take n ps; bytes = bytes; floats = floats; words = words }) same-cast z.settings

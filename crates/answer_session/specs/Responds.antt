@@ -3,7 +3,7 @@ use Rattle.std.specs.Prelude.{ℕ, ◌+◌, ◌≤◌, ◌≡◌, Bool, false, �
 use Rattle.method.specs.declared.Sides.{Sides}
 use Rattle.method.specs.declared.Settings.{Settings}
 use Rattle.method.specs.Cast.{cells, sides_fit}
-use Rattle.method.specs.Form.{header, labels_in_lem, values_in}
+use Rattle.method.specs.Form.{header, labels_in, values_in}
 use Rattle.method.specs.Answers.{passed, verdict}
 use Rattle.method.specs.Rooms.{byte_need, float_need, word_need}
 use Rattle.method.specs.Program.{program_checks, printed}
@@ -29,7 +29,7 @@ crowded_by limit (Named h) = sides_fit h.sides && ltb limit (cells h.sides)
 -- where the labels of a session that was read stand in its bytes
 pub record LabelsAt (input : List ℕ) (s : Sides) (start : ℕ) : Type 0 where
   pub within : start + cells s ≤ length input
-  pub are : take (cells s) (drop start input) ≡ labels_in_lem (header input)
+  pub are : take (cells s) (drop start input) ≡ labels_in (header input)
 
 -- it passes all checks, and what it names was handed back
 pub record IsRead (limit : ℕ) (input : List ℕ) (s : Sides) (t : Settings) (vs : List ℤ) : Type 0 where

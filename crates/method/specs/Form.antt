@@ -121,14 +121,14 @@ unfoldable pub value_written : Order → ℤ → List ℕ
 value_written o z = in_order o (four_bytes (word_of z))
 
 -- "Then one label byte per cell, then one four-byte .. value per cell .., and nothing more."
-unfoldable pub labels_in_lem : Header → List ℕ
-labels_in_lem h = take (cells h.sides) h.body
+unfoldable pub labels_in : Header → List ℕ
+labels_in h = take (cells h.sides) h.body
 
 unfoldable pub values_in : Header → List ℤ
 values_in h = let n = cells h.sides in tab n (λ c. value_read h.order (take 4 (drop (n + 4 * c) h.body)))
 
 unfoldable pub cast_in : Header → Cast
-cast_in h = record { sides = h.sides; labels = labels_in_lem h; values = values_in h }
+cast_in h = record { sides = h.sides; labels = labels_in h; values = values_in h }
 
 -- ---- the bytes of a session
 unfoldable pub line : List ℕ → List ℕ → List ℕ
@@ -149,5 +149,5 @@ written k o t = header_written k.sides o t ++ k.labels ++ flat_map (value_writte
 
 -- one name that opens this file
 unfoldable pub computing_form : Unit {0}
-unfolding after closed number_line order_line lines more read_lines order_of header_of header wrong_line bad_line in_order most_first twos_complement word_of four_bytes value_read value_written labels_in_lem values_in cast_in line order_word header_written written
+unfolding after closed number_line order_line lines more read_lines order_of header_of header wrong_line bad_line in_order most_first twos_complement word_of four_bytes value_read value_written labels_in values_in cast_in line order_word header_written written
 computing_form = tt

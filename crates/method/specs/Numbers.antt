@@ -14,12 +14,12 @@ unfoldable pub decimal : ℕ → List ℕ
 decimal n = spelled n n
 
 -- and read: "1 to 7 decimal digits with no sign and no leading zero, except `0` itself"
-unfoldable pub is_digit_lem : ℕ → Bool
-is_digit_lem b = between 48 57 b
+unfoldable pub is_digit : ℕ → Bool
+is_digit b = between 48 57 b
 
 unfoldable pub digits : List ℕ → List ℕ
 digits [] = []
-digits (b ∷ bs) = elim (is_digit_lem b) [ true ↦ b ∷ digits bs | false ↦ [] ]
+digits (b ∷ bs) = elim (is_digit b) [ true ↦ b ∷ digits bs | false ↦ [] ]
 
 unfoldable pub is_number : List ℕ → Bool
 is_number ds = between 1 7 (length ds) && (eqb (length ds) 1 || not (eqb (get_or ds 0 0) 48))
@@ -30,5 +30,5 @@ value_of v (b ∷ bs) = value_of (10 * v + (b - 48)) bs
 
 -- one name that opens this file
 unfoldable pub computing_numbers : Unit {0}
-unfolding last_digit spelled decimal is_digit_lem digits is_number value_of
+unfolding last_digit spelled decimal is_digit digits is_number value_of
 computing_numbers = tt

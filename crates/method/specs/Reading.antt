@@ -2,7 +2,7 @@
 use Rattle.std.specs.Prelude.{ℕ, ◌-◌, ◌*◌, not, List, [], ◌∷◌, ltb, eqb, length, ℤ}
 use Rattle.method.specs.declared.Answer.{Answer}
 use Rattle.method.specs.Cast.{cells, sides_fit, settings_fit, label_fault, value_fault}
-use Rattle.method.specs.Form.{wrong, Header, header_of, header, bad_line, labels_in_lem, values_in, cast_in}
+use Rattle.method.specs.Form.{wrong, Header, header_of, header, bad_line, labels_in, values_in, cast_in}
 use Rattle.method.specs.Answers.{refusal, done, Check, check, fault, passed, refused, verdict}
 use Rattle.method.specs.Rooms.{filled}
 
@@ -50,24 +50,24 @@ pub record Read : Type 0 where
 unfoldable pub not_read : Reading → Answer → Read
 not_read r a = let none = header_of (wrong 0) in record { answer = a; header = none; start = 0; labels = none.body; values = r.values }
 
-unfoldable pub is_read_lem : Reading → Read
-is_read_lem r =
+unfoldable pub is_read : Reading → Read
+is_read r =
     let h = named r in
     record {
       answer = done;
       header = h;
       start = length r.bytes - length h.body;
-      labels = labels_in_lem h;
+      labels = labels_in h;
       values = filled (cells h.sides) (values_in h) r.values;
     }
 
 unfoldable pub reading_by : List (Check Reading) → Reading → Read
-reading_by checks r = elim (verdict checks r) [ refused num place ↦ not_read r (refusal num place) | passed ↦ is_read_lem r ]
+reading_by checks r = elim (verdict checks r) [ refused num place ↦ not_read r (refusal num place) | passed ↦ is_read r ]
 
 unfoldable pub reading : Reading → Read
 reading r = reading_by reader_checks r
 
 -- one name that opens this file
 unfoldable pub computing_reading : Unit {0}
-unfolding line_check side_check body_check room_check content_checks reader_checks not_read is_read_lem reading_by reading
+unfolding line_check side_check body_check room_check content_checks reader_checks not_read is_read reading_by reading
 computing_reading = tt

@@ -7,7 +7,7 @@ use lib.IntN.{ℤ, pos, nat_abs}
 use Rattle.laws.specs.Whole.{◌-ᶻ◌, ◌*ᶻ◌}
 use Rattle.method.specs.declared.Answer.{Answer}
 use Rattle.method.specs.Cast.{label_at, field}
-use Rattle.method.specs.Form.{header, labels_in_lem, cast_in}
+use Rattle.method.specs.Form.{header, labels_in, cast_in}
 use Rattle.method.specs.Answers.{refusal}
 use Rattle.method.specs.Solving.{Solved, solving}
 use Rattle.method.specs.Reading.{line_check, side_check, body_check, content_checks}
@@ -38,7 +38,7 @@ module _ (bs : List ℕ) (a : Answer) (ps : List ℤ) (e : program bs ≡ print 
           absurd (omega (arith, z, ap (λ r. r.number) (print_answer a (refusal num place) ps [] q), (f 1 11 (omega arith)).0))
 
   -- |m·pressure − y| ≤ m · worst · interior · depth, all as printed, for the cast that the input names
-  pub question_3_print : (m : ℕ) → 1 ≤ m → (y : ℕ → ℤ) → Solves (cast_in (header bs)) m y → (c : ℕ) → label_at (labels_in_lem (header bs)) c ≡ 0
+  pub question_3_print : (m : ℕ) → 1 ≤ m → (y : ℕ → ℤ) → Solves (cast_in (header bs)) m y → (c : ℕ) → label_at (labels_in (header bs)) c ≡ 0
       → nat_abs (pos m *ᶻ field ps c -ᶻ y c) ≤ bound m a.worst a.interior a.depth
   unfolding asked cast_in
   question_3_print m l y s c h =

@@ -17,7 +17,7 @@ use Rattle.laws.proofs.Naturals.{le_or_lt}
 use Rattle.method.specs.declared.Found.{Found}
 use Rattle.method.specs.declared.Found.TheVariants.{Nowhere, At}
 use Rattle.method.specs.Cast.{between, cells, sides_fit}
-use Rattle.method.specs.Numbers.{last_digit, spelled, decimal, digits, is_digit_lem, is_number, value_of}
+use Rattle.method.specs.Numbers.{last_digit, spelled, decimal, digits, is_digit, is_number, value_of}
 use Rattle.method.specs.Form.{order_word, line, header_written, Line, bad, good, after, closed, number_line, order_line, lines, Lines, wrong, right, more, read_lines, header_of, header, wrong_line, bad_line}
 use Rattle.method.specs.OldForm.{number_to}
 use Rattle.method.specs.Answers.{Verdict, refused, verdict}
@@ -59,7 +59,7 @@ after_length ks bs cs e = ap length (after_is ks bs cs e) ∙ length-append ks c
 digits_on : (cs tail : List ℕ) → length (digits cs) < length cs → digits (cs ++ tail) ≡ digits cs
 unfolding digits
 digits_on [] tail h = absurd (not-suc-le-zero h)
-digits_on (b ∷ cs) tail h = go (is_digit_lem b) (λ l. digits_on cs tail l) h
+digits_on (b ∷ cs) tail h = go (is_digit b) (λ l. digits_on cs tail l) h
   where
     go : (t : Bool) → (length (digits cs) < length cs → digits (cs ++ tail) ≡ digits cs) → length {A = ℕ} (elim t [ true ↦ b ∷ digits cs | false ↦ [] ]) < suc (length cs)
         → ◌≡◌ {A = List ℕ} (elim t [ true ↦ b ∷ digits (cs ++ tail) | false ↦ [] ]) (elim t [ true ↦ b ∷ digits cs | false ↦ [] ])
@@ -69,7 +69,7 @@ digits_on (b ∷ cs) tail h = go (is_digit_lem b) (λ l. digits_on cs tail l) h
 digits_no_fewer : (cs tail : List ℕ) → length (digits cs) ≤ length (digits (cs ++ tail))
 unfolding digits
 digits_no_fewer [] tail = omega arith
-digits_no_fewer (b ∷ cs) tail = go (is_digit_lem b) (digits_no_fewer cs tail)
+digits_no_fewer (b ∷ cs) tail = go (is_digit b) (digits_no_fewer cs tail)
   where
     go : (t : Bool) → length (digits cs) ≤ length (digits (cs ++ tail))
         → length {A = ℕ} (elim t [ true ↦ b ∷ digits cs | false ↦ [] ]) ≤ length {A = ℕ} (elim t [ true ↦ b ∷ digits (cs ++ tail) | false ↦ [] ])

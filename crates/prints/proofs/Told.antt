@@ -10,7 +10,7 @@ use lib.Seq.{drop-append_seam}
 use Rattle.laws.specs.Text.{text}
 use Rattle.method.specs.declared.Answer.{Answer}
 use Rattle.method.specs.Cast.{between}
-use Rattle.method.specs.Numbers.{last_digit, spelled, decimal, is_digit_lem, digits, value_of}
+use Rattle.method.specs.Numbers.{last_digit, spelled, decimal, is_digit, digits, value_of}
 use Rattle.method.specs.Form.{line}
 use Rattle.method.specs.Program.{whole, answer_lines, print}
 use Rattle.theory.proofs.Digits.{decimal_stop, value_decimal}
@@ -26,7 +26,7 @@ record Told (A : Type 0) (a b : A) (x y : List ℕ) : Type 0 where
 
 -- a number's digits end at the LF
 ends_there : (n : ℕ) (x : List ℕ) → digits (decimal n ++ (10 ∷ x)) ≡ decimal n
-unfolding is_digit_lem between
+unfolding is_digit between
 ends_there n x = decimal_stop n 10 x refl
 
 number_told : (n m : ℕ) (x y : List ℕ) → decimal n ++ (10 ∷ x) ≡ decimal m ++ (10 ∷ y) → Told ℕ n m x y
@@ -48,7 +48,7 @@ line_told key n m x y e =
 -- ---- the line of a pressure
 -- a minus is no digit, and a number has one
 not_minus : (n : ℕ) (x y : List ℕ) → decimal n ++ (10 ∷ x) ≡ 45 ∷ y → ⊥
-unfolding digits is_digit_lem between value_of decimal spelled last_digit
+unfolding digits is_digit between value_of decimal spelled last_digit
 not_minus n x y e =
     let d : decimal n ≡ [] = sym (ends_there n x) ∙ ap digits e in
     let z : n ≡ 0 = sym (value_decimal n) ∙ ap (value_of 0) d in

@@ -16,7 +16,7 @@ use lib.ListN.{length, get_or, take, drop, length-drop, drop_of_length-le}
 use lib.Seq.{drop-cons, drop-drop, take_all}
 use Rattle.laws.specs.Text.{text}
 use Rattle.method.specs.Cast.{between}
-use Rattle.method.specs.Numbers.{digits, is_digit_lem, is_number, value_of}
+use Rattle.method.specs.Numbers.{digits, is_digit, is_number, value_of}
 use Rattle.method.specs.Form.{after, closed, number_line, order_line}
 use Rattle.method.specs.OldForm.{number_to}
 use Rattle.theory.proofs.Lines.{line_to}
@@ -59,9 +59,9 @@ abbrev run : Bool → ℕ → List ℕ → List ℕ
 run true b l = b ∷ l
 run false b l = []
 
-digits_cons : (b : ℕ) (l : List ℕ) → digits (b ∷ l) ≡ run (is_digit_lem b) b (digits l)
+digits_cons : (b : ℕ) (l : List ℕ) → digits (b ∷ l) ≡ run (is_digit b) b (digits l)
 unfolding digits
-digits_cons b l = go (is_digit_lem b)
+digits_cons b l = go (is_digit b)
   where
     go : (t : Bool) → ◌≡◌ {A = List ℕ} (elim t [ true ↦ b ∷ digits l | false ↦ [] ]) (run t b (digits l))
     go true = refl
@@ -70,16 +70,16 @@ digits_cons b l = go (is_digit_lem b)
 pub digits_length : (l : List ℕ) → length (digits l) ≤ length l
 unfolding digits
 digits_length [] = omega arith
-digits_length (b ∷ l) = rw (digits_cons b l) (go (is_digit_lem b) (digits_length l))
+digits_length (b ∷ l) = rw (digits_cons b l) (go (is_digit b) (digits_length l))
   where
     go : (t : Bool) → length (digits l) ≤ length l → length (run t b (digits l)) ≤ suc (length l)
     go true h = omega arith
     go false h = omega arith
 
-digits_more : (b : ℕ) (l : List ℕ) → is_digit_lem b ≡ true → digits (b ∷ l) ≡ b ∷ digits l
+digits_more : (b : ℕ) (l : List ℕ) → is_digit b ≡ true → digits (b ∷ l) ≡ b ∷ digits l
 digits_more b l e = digits_cons b l ∙ ap (λ t. run t b (digits l)) e
 
-digits_stop : (b : ℕ) (l : List ℕ) → is_digit_lem b ≡ false → digits (b ∷ l) ≡ []
+digits_stop : (b : ℕ) (l : List ℕ) → is_digit b ≡ false → digits (b ∷ l) ≡ []
 digits_stop b l e = digits_cons b l ∙ ap (λ t. run t b (digits l)) e
 
 -- n digits are passed
@@ -89,12 +89,12 @@ pub record Counted (l : List ℕ) (n : ℕ) : Type 0 where
 pub counted_none : (l : List ℕ) → Counted l 0
 counted_none l = record { is = omega arith }
 
-pub counted_more : (l : List ℕ) (n : ℕ) (r : Bool) → n < length l → Counted l n → r ≡ is_digit_lem (get_or l n 0) → r ≡ true → Counted l (n + 1)
+pub counted_more : (l : List ℕ) (n : ℕ) (r : Bool) → n < length l → Counted l n → r ≡ is_digit (get_or l n 0) → r ≡ true → Counted l (n + 1)
 counted_more l n r h k e t =
     let q : digits (drop n l) ≡ get_or l n 0 ∷ digits (drop (n + 1) l) = rw (drop-cons l n 0 h, add-one n) (digits_more (get_or l n 0) (drop (suc n) l) (sym e ∙ t)) in
     record { is = omega (arith, k.is, ap length q) }
 
-pub counted_stop : (l : List ℕ) (n : ℕ) (r : Bool) → n < length l → Counted l n → r ≡ is_digit_lem (get_or l n 0) → r ≡ false → n ≡ length (digits l)
+pub counted_stop : (l : List ℕ) (n : ℕ) (r : Bool) → n < length l → Counted l n → r ≡ is_digit (get_or l n 0) → r ≡ false → n ≡ length (digits l)
 counted_stop l n r h k e t =
     let q : digits (drop n l) ≡ [] = rw (drop-cons l n 0 h) (digits_stop (get_or l n 0) (drop (suc n) l) (sym e ∙ t)) in
     omega (arith, k.is, ap length q)
@@ -104,10 +104,10 @@ counted_end l n h k = omega (arith, k.is, digits_length (drop n l), length-drop 
 
 -- what stands at a place of the run
 pub record DigitAt (l : List ℕ) (i : ℕ) (ds : List ℕ) : Type 0 where
-  pub digit : is_digit_lem (get_or l i 0) ≡ true
+  pub digit : is_digit (get_or l i 0) ≡ true
   pub same : get_or ds i 0 ≡ get_or l i 0
 
-digit_in : (b : ℕ) (l : List ℕ) (t : Bool) → is_digit_lem b ≡ t → ((i : ℕ) → i < length (digits l) → DigitAt l i (digits l))
+digit_in : (b : ℕ) (l : List ℕ) (t : Bool) → is_digit b ≡ t → ((i : ℕ) → i < length (digits l) → DigitAt l i (digits l))
     → (i : ℕ) → i < length (run t b (digits l)) → DigitAt (b ∷ l) i (run t b (digits l))
 digit_in b l true e f zero h = record { digit = e; same = refl }
 digit_in b l true e f (suc i) h = let r = f i (le_of_suc-le-suc h) in record { digit = r.digit; same = r.same }
@@ -116,17 +116,17 @@ digit_in b l false e f i h = absurd (not-suc-le-zero h)
 pub digit_at : (l : List ℕ) (i : ℕ) → i < length (digits l) → DigitAt l i (digits l)
 unfolding digits
 digit_at [] i h = absurd (not-suc-le-zero h)
-digit_at (b ∷ l) i h = rw (digits_cons b l) (digit_in b l (is_digit_lem b) refl (λ i h. digit_at l i h) i (rw (digits_cons b l) at h))
+digit_at (b ∷ l) i h = rw (digits_cons b l) (digit_in b l (is_digit b) refl (λ i h. digit_at l i h) i (rw (digits_cons b l) at h))
 
-pub is_digit_lem : (l : List ℕ) (i n : ℕ) → i < n → n ≡ length (digits l) → is_digit_lem (get_or l i 0) ≡ true
+pub is_digit_lem : (l : List ℕ) (i n : ℕ) → i < n → n ≡ length (digits l) → is_digit (get_or l i 0) ≡ true
 is_digit_lem l i n h e = (digit_at l i (omega arith)).digit
 
 and_true : (a b : Bool) → (a && b) ≡ true → (a ≡ true) × (b ≡ true)
 and_true true b e = (refl, e)
 and_true false b e = absurd (false≢true e)
 
-pub digit_range : (b : ℕ) → is_digit_lem b ≡ true → (48 ≤ b) × (b ≤ 57)
-unfolding is_digit_lem between
+pub digit_range : (b : ℕ) → is_digit b ≡ true → (48 ≤ b) × (b ≤ 57)
+unfolding is_digit between
 digit_range b e = let p = and_true (leb 48 b) (leb b 57) e in (leb-true 48 b p.0, leb-true b 57 p.1)
 
 -- ---- the number
@@ -190,12 +190,12 @@ number_rest l n e h k j =
     lone (suc zero) h j = absurd (j refl)
     lone (suc (suc m)) h j = omega arith
 
-pub digit_both : (b : ℕ) → 48 ≤ b → leb b 57 ≡ is_digit_lem b
-unfolding is_digit_lem between
+pub digit_both : (b : ℕ) → 48 ≤ b → leb b 57 ≡ is_digit b
+unfolding is_digit between
 digit_both b h = rw (le-leb 48 b h)
 
-pub digit_not : (b : ℕ) → b < 48 → leb 48 b ≡ is_digit_lem b
-unfolding is_digit_lem between
+pub digit_not : (b : ℕ) → b < 48 → leb 48 b ≡ is_digit b
+unfolding is_digit between
 digit_not b h = rw (lt-leb 48 b h)
 
 pub in_run : (l : List ℕ) (i n : ℕ) → i < n → n ≡ length (digits l) → i < length l

@@ -38,9 +38,9 @@ header_one bytes (Named h) (Named g) a b =
     ap Named (header_eq h g (ap (λ x. x.sides) e) (ap (λ x. x.order) e) (ap (λ x. x.settings) e) (start_one bytes h.start g.start a.within b.within (ap (λ x. x.body) e)))
 
 -- a line by one more than its value, or 0, and by what is left behind it
-abbrev value_in_lem : Line → ℕ
-value_in_lem bad = 0
-value_in_lem (good v rest) = suc v
+abbrev value_in : Line → ℕ
+value_in bad = 0
+value_in (good v rest) = suc v
 
 abbrev rest_in : Line → List ℕ
 rest_in bad = []
@@ -49,9 +49,9 @@ rest_in (good v rest) = rest
 pub line_one : (reads : List ℕ → Line) (bytes : List ℕ) (r q : LineRead) → LineOf reads bytes r → LineOf reads bytes q → r ≡ q
 unfolding line_of taken
 line_one reads bytes NotOfForm NotOfForm a b = refl
-line_one reads bytes NotOfForm (Value w m) a b = absurd (omega (arith, ap value_in_lem (sym a.is ∙ b.is)))
-line_one reads bytes (Value v n) NotOfForm a b = absurd (omega (arith, ap value_in_lem (sym a.is ∙ b.is)))
+line_one reads bytes NotOfForm (Value w m) a b = absurd (omega (arith, ap value_in (sym a.is ∙ b.is)))
+line_one reads bytes (Value v n) NotOfForm a b = absurd (omega (arith, ap value_in (sym a.is ∙ b.is)))
 line_one reads bytes (Value v n) (Value w m) a b =
     let e : good v (drop n bytes) ≡ good w (drop m bytes) = sym a.is ∙ b.is in
-    let same : v ≡ w = omega (arith, ap value_in_lem e) in
+    let same : v ≡ w = omega (arith, ap value_in e) in
     ap₂ Value same (start_one bytes n m a.within b.within (ap rest_in e))

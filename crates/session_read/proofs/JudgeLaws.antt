@@ -14,13 +14,13 @@ use Rattle.laws.specs.Lists.{tab}
 use Rattle.laws.proofs.Lists.{get_or_tab}
 use Rattle.method.specs.declared.Found.TheVariants.{Nowhere}
 use Rattle.method.specs.Cast.{cells, sides_fit, settings_fit, label_at, widest, first, bad_label, bad_value}
-use Rattle.method.specs.Form.{header, bad_line, labels_in_lem, values_in, cast_in}
+use Rattle.method.specs.Form.{header, bad_line, labels_in, values_in, cast_in}
 use Rattle.method.specs.Form as form
 use Rattle.method.specs.Answers.{fault, verdict}
 use Rattle.method.specs.Reading.{line_check, side_check, body_check, room_check, content_checks, reader_checks}
 use Rattle.session_header.specs.Lines.{named, HeaderOf, header_in, wrong_in, start_in}
 use Rattle.checks.specs.Faults.{bad_label_at}
-use Rattle.session_values.specs.Body.{value_in_lem, bad_value_in}
+use Rattle.session_values.specs.Body.{value_in, bad_value_in}
 use Rattle.theory.proofs.Firsts.{first_cong}
 use Rattle.theory.specs.Sides.{Fit}
 use Rattle.theory.proofs.Sides.{fit}
@@ -38,19 +38,19 @@ use Rattle.session_read.specs.declared.Judged.TheVariants.{Refused, Passed}
 
 -- ---- checks 3, 4, 5 of a header
 module _ (H : form.Header) (n : ℕ) (e : n ≡ cells H.sides) (l : n ≤ length H.body) where
-  label_in : (c : ℕ) → c < n → label_at (labels_in_lem H) c ≡ label_at H.body c
-  unfolding label_at labels_in_lem
+  label_in : (c : ℕ) → c < n → label_at (labels_in H) c ≡ label_at H.body c
+  unfolding label_at labels_in
   label_in c h = ap (λ k. get_or (take k H.body) c 2) (sym e) ∙ get_or-take n H.body c 2 h
 
-  label_fault_lem : bad_label H.sides (labels_in_lem H) ≡ first (bad_label_at H.body) n
+  label_fault_lem : bad_label H.sides (labels_in H) ≡ first (bad_label_at H.body) n
   unfolding bad_label bad_label_at
   label_fault_lem = ap (first _) (sym e) ∙ first_cong _ _ n (λ c h. ap (ltb 2) (label_in c h))
 
-  value_in_lem : (c : ℕ) → c < n → get_or (values_in H) c (pos 0) ≡ value_in_lem H.body n H.order c
-  unfolding values_in value_in_lem
+  value_in_lem : (c : ℕ) → c < n → get_or (values_in H) c (pos 0) ≡ value_in H.body n H.order c
+  unfolding values_in value_in
   value_in_lem c h = ap (λ k. get_or (tab k (λ c. form.value_read H.order (take 4 (drop (k + 4 * c) H.body)))) c (pos 0)) (sym e) ∙ get_or_tab n _ c (pos 0) h
 
-  value_fault_lem : bad_value H.sides (labels_in_lem H) (values_in H) ≡ first (bad_value_in H.body n H.order) n
+  value_fault_lem : bad_value H.sides (labels_in H) (values_in H) ≡ first (bad_value_in H.body n H.order) n
   unfolding bad_value bad_value_in
   value_fault_lem = ap (first _) (sym e) ∙ first_cong _ _ n (λ c h. ap₂ (λ x y. ltb (widest x) (nat_abs y)) (label_in c h) (value_in_lem c h))
 
@@ -59,13 +59,13 @@ module _ (bytes : List ℕ) (h : Header) (n : ℕ) (z : Sized bytes h n) where
   settings_of : settings_fit (header bytes).settings ≡ settings_fit h.settings
   settings_of = ap (λ H. settings_fit H.settings) z.is
 
-  labels_of_lem : (body : List ℕ) → body ≡ drop h.start bytes → bad_label (header bytes).sides (labels_in_lem (header bytes)) ≡ first (bad_label_at body) n
+  labels_of_lem : (body : List ℕ) → body ≡ drop h.start bytes → bad_label (header bytes).sides (labels_in (header bytes)) ≡ first (bad_label_at body) n
   labels_of_lem body b =
-      ap (λ H. bad_label H.sides (labels_in_lem H)) z.is ∙ label_fault_lem (named bytes h) n z.cells (omega (arith, z.long)) ∙ ap (λ l. first (bad_label_at l) n) (sym b)
+      ap (λ H. bad_label H.sides (labels_in H)) z.is ∙ label_fault_lem (named bytes h) n z.cells (omega (arith, z.long)) ∙ ap (λ l. first (bad_label_at l) n) (sym b)
 
-  values_of : (body : List ℕ) → body ≡ drop h.start bytes → bad_value (header bytes).sides (labels_in_lem (header bytes)) (values_in (header bytes)) ≡ first (bad_value_in body n h.order) n
+  values_of : (body : List ℕ) → body ≡ drop h.start bytes → bad_value (header bytes).sides (labels_in (header bytes)) (values_in (header bytes)) ≡ first (bad_value_in body n h.order) n
   values_of body b =
-      ap (λ H. bad_value H.sides (labels_in_lem H) (values_in H)) z.is ∙ value_fault_lem (named bytes h) n z.cells (omega (arith, z.long))
+      ap (λ H. bad_value H.sides (labels_in H) (values_in H)) z.is ∙ value_fault_lem (named bytes h) n z.cells (omega (arith, z.long))
       ∙ ap (λ l. first (bad_value_in l n h.order) n) (sym b)
 
   pub content_ruled : (body : List ℕ) (o : Ruling) → o ≡ content_ruling h.settings body n h.order → body ≡ drop h.start bytes → verdict content_checks (asked bytes 0) ≡ ruling_of o

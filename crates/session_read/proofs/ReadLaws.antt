@@ -13,12 +13,12 @@ use Rattle.laws.specs.Lists.{tab}
 use Rattle.method.specs.declared.Answer.{Answer}
 use Rattle.method.specs.declared.Order.TheVariants.{Big}
 use Rattle.method.specs.Cast.{cells}
-use Rattle.method.specs.Form.{header, header_of, labels_in_lem, values_in}
+use Rattle.method.specs.Form.{header, header_of, labels_in, values_in}
 use Rattle.method.specs.Form as form
 use Rattle.method.specs.Answers.{fault, passed, refused, verdict, refusal, done}
 use Rattle.method.specs.Rooms.{filled}
-use Rattle.method.specs.Reading.{Reading, line_check, side_check, body_check, room_check, content_checks, reader_checks, not_read, is_read_lem, reading_by, reading}
-use Rattle.session_values.specs.Body.{value_in_lem}
+use Rattle.method.specs.Reading.{Reading, line_check, side_check, body_check, room_check, content_checks, reader_checks, not_read, is_read, reading_by, reading}
+use Rattle.session_values.specs.Body.{value_in}
 use Rattle.theory.specs.Sessions.{Bytes}
 use Rattle.theory.specs.Sides.{Fit}
 use Rattle.theory.proofs.Sides.{fit}
@@ -43,7 +43,7 @@ pub reading_refused : (q : Reading) (num place : ℕ) → verdict reader_checks 
 unfolding reading reading_by
 reading_refused q num place e = rw (reading, reading_by, e)
 
-pub reading_passed : (q : Reading) → verdict reader_checks q ≡ passed → reading q ≡ is_read_lem q
+pub reading_passed : (q : Reading) → verdict reader_checks q ≡ passed → reading q ≡ is_read q
 unfolding reading reading_by
 reading_passed q e = rw (reading, reading_by, e)
 
@@ -81,11 +81,11 @@ within bytes room (Passed h) z = record { lies = omega (arith, z.ready.sized.lon
 
 labels_of_lem : (bytes : List ℕ) (room : ℕ) (j : Judged) → JudgedOf bytes room j
     → take ((taken_of j).session.start + (taken_of j).count - (taken_of j).session.start) (drop (taken_of j).session.start bytes) ≡ (reading (asked bytes room)).labels
-unfolding taken_of verdict_of ReadyIf not_read header_of is_read_lem labels_in_lem
+unfolding taken_of verdict_of ReadyIf not_read header_of is_read labels_in
 labels_of_lem bytes room (Refused num place) z = sym (ap (λ r. r.labels) (reading_refused (asked bytes room) num place z.is))
 labels_of_lem bytes room (Passed h) z =
     let m : h.start + cells h.sides - h.start ≡ cells h.sides = omega arith in
-    ap (λ k. take k (drop h.start bytes)) m ∙ sym (ap labels_in_lem z.ready.sized.is) ∙ sym (ap (λ r. r.labels) (reading_passed (asked bytes room) z.is))
+    ap (λ k. take k (drop h.start bytes)) m ∙ sym (ap labels_in z.ready.sized.is) ∙ sym (ap (λ r. r.labels) (reading_passed (asked bytes room) z.is))
 
 module _ (bytes : List ℕ) (room : ℕ) (j : Judged) (t : Taken) (z : JudgedOf bytes room j) (e : t ≡ taken_of j) where
   known : Within bytes room t
@@ -111,11 +111,11 @@ module _ (bytes : List ℕ) (room : ℕ) (j : Judged) (t : Taken) (z : JudgedOf 
 
 -- ---- what is read
 abbrev stored : List ℕ → Taken → List ℤ → List ℤ
-stored bytes t old = filled t.count (tab t.count (value_in_lem (drop t.session.start bytes) t.count t.session.order)) old
+stored bytes t old = filled t.count (tab t.count (value_in (drop t.session.start bytes) t.count t.session.order)) old
 
 module _ (bytes : List ℕ) (old : List ℤ) (known : Bytes bytes) where
   read_of : (j : Judged) → JudgedOf bytes (length old) j → ReadOf bytes old (taken_of j).session (stored bytes (taken_of j) old)
-  unfolding taken_of verdict_of ReadyIf not_read header_of is_read_lem values_in value_in_lem filled tab
+  unfolding taken_of verdict_of ReadyIf not_read header_of is_read values_in value_in filled tab
   read_of (Refused num place) z =
       let q = reading_refused (lent bytes old) num place (same_verdict bytes old ∙ z.is) in
       record { answer = rw q; sides = rw q; order = rw q; settings = rw q; start = rw q; values = rw q; are_bytes = known }
@@ -133,7 +133,7 @@ module _ (bytes : List ℕ) (old : List ℤ) (known : Bytes bytes) where
       }
 
   pub read_taken : (new : List ℤ) (j : Judged) (t : Taken) (body : List ℕ) → JudgedOf bytes (length old) j → t ≡ taken_of j → body ≡ drop t.session.start bytes
-      → new ≡ filled t.count (tab t.count (value_in_lem body t.count t.session.order)) old
+      → new ≡ filled t.count (tab t.count (value_in body t.count t.session.order)) old
       → ReadOf bytes old t.session new
   read_taken new j t body z e b f = rw (f, b, e) (read_of j z)
 

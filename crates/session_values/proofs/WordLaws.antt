@@ -24,7 +24,7 @@ use Rattle.method.specs.declared.Order.TheVariants.{Big, Little}
 use Rattle.method.specs.Cast.{label_at, widest}
 use Rattle.method.specs.Rooms.{filled}
 use Rattle.method.specs.Form.{in_order, most_first, twos_complement, word_of, value_read}
-use Rattle.session_values.specs.Body.{is_big, value_in_lem, bad_value_in}
+use Rattle.session_values.specs.Body.{is_big, value_in, bad_value_in}
 
 -- ---- two's complement
 low : (w : ℕ) → w < 2147483648 → twos_complement w ≡ pos w
@@ -114,11 +114,11 @@ module _ (l : List ℕ) (at r : ℕ) (o : Order) (b : Bool) (h : at + 4 ≤ leng
   little_word t q = q ∙ ap (most_first 0) (sym (as_little (take 4 (drop at l)) o (sym e ∙ t) ∙ ap reverse (four l at h)))
 
 -- ---- cells of a body
-pub value_of_cell : (body : List ℕ) (n c w : ℕ) (o : Order) (v : ℤ) → w ≡ most_first 0 (in_order o (take 4 (drop (n + 4 * c) body))) → v ≡ twos_complement w → v ≡ value_in_lem body n o c
-unfolding value_in_lem value_read
+pub value_of_cell : (body : List ℕ) (n c w : ℕ) (o : Order) (v : ℤ) → w ≡ most_first 0 (in_order o (take 4 (drop (n + 4 * c) body))) → v ≡ twos_complement w → v ≡ value_in body n o c
+unfolding value_in value_read
 value_of_cell body n c w o v e q = q ∙ ap twos_complement e
 
-pub bad_of_cell : (body : List ℕ) (n c : ℕ) (o : Order) (v : ℤ) (r : Bool) → c < n → 5 * n ≤ length body → SFits w32 v → v ≡ value_in_lem body n o c
+pub bad_of_cell : (body : List ℕ) (n c : ℕ) (o : Order) (v : ℤ) (r : Bool) → c < n → 5 * n ≤ length body → SFits w32 v → v ≡ value_in body n o c
     → r ≡ ltb (widest (get_or body c 0)) (nat_abs (to_z w32 (of_z w32 v))) → r ≡ bad_value_in body n o c
 unfolding bad_value_in label_at
 bad_of_cell body n c o v r h l f e q =

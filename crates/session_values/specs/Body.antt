@@ -10,8 +10,8 @@ is_big Big = true
 is_big Little = false
 
 -- the value of cell c of a body of n cells
-unfoldable pub value_in_lem : List ℕ → ℕ → Order → ℕ → ℤ
-value_in_lem body n o c = value_read o (take 4 (drop (n + 4 * c) body))
+unfoldable pub value_in : List ℕ → ℕ → Order → ℕ → ℤ
+value_in body n o c = value_read o (take 4 (drop (n + 4 * c) body))
 
 unfoldable pub bad_value_in : List ℕ → ℕ → Order → ℕ → Bool
-bad_value_in body n o c = ltb (widest (label_at body c)) (nat_abs (value_in_lem body n o c))
+bad_value_in body n o c = ltb (widest (label_at body c)) (nat_abs (value_in body n o c))

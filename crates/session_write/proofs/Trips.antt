@@ -13,10 +13,10 @@ use Rattle.method.specs.declared.Sides.{Sides}
 use Rattle.method.specs.declared.Order.{Order}
 use Rattle.method.specs.declared.Settings.{Settings}
 use Rattle.method.specs.Cast.{cells}
-use Rattle.method.specs.Form.{header, labels_in_lem, values_in, cast_in, value_read}
+use Rattle.method.specs.Form.{header, labels_in, values_in, cast_in, value_read}
 use Rattle.method.specs.Answers.{fault}
 use Rattle.method.specs.Rooms.{filled}
-use Rattle.method.specs.Reading.{Reading, line_check, side_check, body_check, room_check, content_checks, reader_checks, reading, is_read_lem}
+use Rattle.method.specs.Reading.{Reading, line_check, side_check, body_check, room_check, content_checks, reader_checks, reading, is_read}
 use Rattle.method.specs.Writing.{Writing, bytes_of, writing}
 use Rattle.theory.specs.Sessions.{Read0, Written0, again}
 use Rattle.theory.proofs.Verdicts.{all_pass, pass_all}
@@ -67,19 +67,19 @@ module _ {bs : List ℕ} {lent : List ℤ} {r : Session} {stored : List ℤ} (z 
   passes = read_0 given (ap (λ x. x.number) (sym z.answer) ∙ a)
 
   sides_are : r.sides ≡ (header bs).sides
-  unfolding is_read_lem
+  unfolding is_read
   sides_are = z.sides ∙ ap (λ x. x.header.sides) (reading_passed given passes)
 
   order_is : r.order ≡ (header bs).order
-  unfolding is_read_lem
+  unfolding is_read
   order_is = z.order ∙ ap (λ x. x.header.order) (reading_passed given passes)
 
   settings_are : r.settings ≡ (header bs).settings
-  unfolding is_read_lem
+  unfolding is_read
   settings_are = z.settings ∙ ap (λ x. x.header.settings) (reading_passed given passes)
 
   values_are : take (cells r.sides) stored ≡ values_in (header bs)
-  unfolding is_read_lem filled
+  unfolding is_read filled
   values_are =
       ap₂ take (ap cells sides_are) (z.values ∙ ap (λ x. x.values) (reading_passed given passes))
       ∙ take_at (values_in (header bs)) (drop (cells (header bs).sides) lent) (cells (header bs).sides) (values_long bs)
@@ -93,8 +93,8 @@ module _ {bs : List ℕ} {lent : List ℤ} {r : Session} {stored : List ℤ} (z 
       pass_all reader_checks (asked bs room)
       (p.0, (p.1.0, (p.1.1.0, (ap fault (le-ltb (length (replicate room (pos 0))) (cells (header bs).sides) k), p.1.1.1.1))))
 
-  labels_are : (room : ℕ) → cells r.sides ≤ room → (reading (asked bs room)).labels ≡ labels_in_lem (header bs)
-  unfolding is_read_lem
+  labels_are : (room : ℕ) → cells r.sides ≤ room → (reading (asked bs room)).labels ≡ labels_in (header bs)
+  unfolding is_read
   labels_are room l = ap (λ x. x.labels) (reading_passed (asked bs room) (passes_too room l))
 
   offered_again : (room : ℕ) (found output : List ℕ) → cells r.sides ≤ room → found ≡ (reading (asked bs room)).labels
@@ -102,8 +102,8 @@ module _ {bs : List ℕ} {lent : List ℤ} {r : Session} {stored : List ℤ} (z 
   unfolding cast_in
   offered_again room found output l f =
       ap₂ (λ x y. offered x r.order r.settings y (take (cells r.sides) stored) output) sides_are (f ∙ labels_are room l)
-      ∙ ap₂ (λ x y. offered (header bs).sides x y (labels_in_lem (header bs)) (take (cells r.sides) stored) output) order_is settings_are
-      ∙ ap (λ y. offered (header bs).sides (header bs).order (header bs).settings (labels_in_lem (header bs)) y output) values_are
+      ∙ ap₂ (λ x y. offered (header bs).sides x y (labels_in (header bs)) (take (cells r.sides) stored) output) order_is settings_are
+      ∙ ap (λ y. offered (header bs).sides (header bs).order (header bs).settings (labels_in (header bs)) y output) values_are
 
   -- what was accepted, given to `write` in its order with an output that is long enough. That it is bytes is in the
   -- promise of `read`

@@ -11,7 +11,7 @@ use lib.Dec.{leb, eqb, leb→le, eqb→eq, T_not}
 use lib.ListN.{length, get_or, take, length-append}
 use borrow.Author.Tests.{le-leb, eq-eqb, ne_eqb}
 use Rattle.method.specs.Cast.{between}
-use Rattle.method.specs.Numbers.{last_digit, spelled, decimal, is_digit_lem, digits, is_number, value_of}
+use Rattle.method.specs.Numbers.{last_digit, spelled, decimal, is_digit, digits, is_number, value_of}
 use Rattle.laws.proofs.Naturals.{le_or_lt}
 use Rattle.laws.proofs.Bools.{and_l, and_r, or_cases, so}
 
@@ -105,44 +105,44 @@ decimal_digits n =
     by_digits (λ n ds. AllDigits ds) (λ d h. (omega arith, tt)) (λ v d h i a. all_more (decimal v) (48 + d) a (omega arith)) n
 
 -- ---- digits read
-is_digit_lem : (b : ℕ) → Digit b → is_digit_lem b ≡ true
-unfolding is_digit_lem between
+is_digit_lem : (b : ℕ) → Digit b → is_digit b ≡ true
+unfolding is_digit between
 is_digit_lem b h = ap₂ ◌&&◌ (le-leb 48 b h.0) (le-leb b 57 h.1)
 
-digit_is : (b : ℕ) → is_digit_lem b ≡ true → Digit b
-unfolding is_digit_lem between
+digit_is : (b : ℕ) → is_digit b ≡ true → Digit b
+unfolding is_digit between
 digit_is b e = (leb→le 48 b (and_l (leb 48 b) (leb b 57) (so e)), leb→le b 57 (and_r (leb 48 b) (leb b 57) (so e)))
 
 onward : Bool → ℕ → List ℕ → List ℕ
 onward true b ds = b ∷ ds
 onward false b ds = []
 
-digits_cons : (b : ℕ) (bs : List ℕ) → digits (b ∷ bs) ≡ onward (is_digit_lem b) b (digits bs)
+digits_cons : (b : ℕ) (bs : List ℕ) → digits (b ∷ bs) ≡ onward (is_digit b) b (digits bs)
 unfolding digits onward
-digits_cons b bs = go (is_digit_lem b)
+digits_cons b bs = go (is_digit b)
   where
     go : (t : Bool) → elim t [ true ↦ b ∷ digits bs | false ↦ [] ] ≡ onward t b (digits bs)
     go true = refl
     go false = refl
 
 -- digits are read up to the first byte that is none
-pub digits_stop : (ds : List ℕ) (x : ℕ) (rest : List ℕ) → AllDigits ds → is_digit_lem x ≡ false → digits (ds ++ (x ∷ rest)) ≡ ds
+pub digits_stop : (ds : List ℕ) (x : ℕ) (rest : List ℕ) → AllDigits ds → is_digit x ≡ false → digits (ds ++ (x ∷ rest)) ≡ ds
 unfolding onward
 digits_stop [] x rest a e = digits_cons x rest ∙ ap (λ t. onward t x (digits rest)) e
 digits_stop (d ∷ ds) x rest a e =
     digits_cons d (ds ++ (x ∷ rest)) ∙ ap₂ (λ t l. onward t d l) (is_digit_lem d a.0) (digits_stop ds x rest a.1 e)
 
 -- a number's digits end before a byte that is none
-pub decimal_stop : (n x : ℕ) (rest : List ℕ) → is_digit_lem x ≡ false → digits (decimal n ++ (x ∷ rest)) ≡ decimal n
+pub decimal_stop : (n x : ℕ) (rest : List ℕ) → is_digit x ≡ false → digits (decimal n ++ (x ∷ rest)) ≡ decimal n
 decimal_stop n x rest e = digits_stop (decimal n) x rest (decimal_digits n) e
 
 -- what is read are digits
 pub digits_digits : (bs : List ℕ) → AllDigits (digits bs)
 unfolding digits onward
 digits_digits [] = tt
-digits_digits (b ∷ bs) = subst AllDigits (sym (digits_cons b bs)) (go (is_digit_lem b) refl (digits_digits bs))
+digits_digits (b ∷ bs) = subst AllDigits (sym (digits_cons b bs)) (go (is_digit b) refl (digits_digits bs))
   where
-    go : (t : Bool) → is_digit_lem b ≡ t → AllDigits (digits bs) → AllDigits (onward t b (digits bs))
+    go : (t : Bool) → is_digit b ≡ t → AllDigits (digits bs) → AllDigits (onward t b (digits bs))
     go true e a = (digit_is b e, a)
     go false e a = tt
 
@@ -150,7 +150,7 @@ digits_digits (b ∷ bs) = subst AllDigits (sym (digits_cons b bs)) (go (is_digi
 pub digits_front : (bs : List ℕ) → take (length (digits bs)) bs ≡ digits bs
 unfolding digits onward
 digits_front [] = refl
-digits_front (b ∷ bs) = subst (λ ds. take (length ds) (b ∷ bs) ≡ ds) (sym (digits_cons b bs)) (go (is_digit_lem b) (digits_front bs))
+digits_front (b ∷ bs) = subst (λ ds. take (length ds) (b ∷ bs) ≡ ds) (sym (digits_cons b bs)) (go (is_digit b) (digits_front bs))
   where
     go : (t : Bool) → take (length (digits bs)) bs ≡ digits bs → take (length (onward t b (digits bs))) (b ∷ bs) ≡ onward t b (digits bs)
     go true e = ap (λ l. b ∷ l) e

@@ -18,7 +18,7 @@ use Rattle.method.specs.declared.Settings.{Settings}
 use Rattle.method.specs.declared.Found.TheVariants.{Nowhere}
 use Rattle.method.specs.Cast.{between}
 use Rattle.method.specs.OldForm.{number_to}
-use Rattle.method.specs.Numbers.{decimal, is_digit_lem, digits, is_number, value_of}
+use Rattle.method.specs.Numbers.{decimal, is_digit, digits, is_number, value_of}
 use Rattle.method.specs.Form.{Line, bad, good, after, closed, number_line, order_line, line, order_word, order_of, lines, Lines, wrong, right, more, read_lines, Header, header_of, header, wrong_line, bad_line, header_written}
 use Rattle.theory.proofs.Digits.{decimal_number, decimal_stop, value_decimal, digits_digits, digits_front, decimal_value, value_small}
 use Rattle.theory.proofs.Reach.{never}
@@ -82,7 +82,7 @@ line_to key bs = go (after key bs) ∙ sym (to_held (text "\n") key bs)
 to_split : (x : ℕ) (key word rest : List ℕ) → key ++ word ++ (x ∷ []) ++ rest ≡ key ++ (word ++ (x ∷ rest))
 to_split x key word rest = append_assoc (key ++ word) (x ∷ []) rest ∙ append_assoc key word (x ∷ rest)
 
-pub number_to_lem : (x : ℕ) (key : List ℕ) (v : ℕ) (rest : List ℕ) → is_digit_lem x ≡ false → v < 10 ^ 7
+pub number_to_lem : (x : ℕ) (key : List ℕ) (v : ℕ) (rest : List ℕ) → is_digit x ≡ false → v < 10 ^ 7
     → number_to (x ∷ []) key (key ++ decimal v ++ (x ∷ []) ++ rest) ≡ good v rest
 unfolding held closed
 number_to_lem x key v rest e h =
@@ -93,8 +93,8 @@ number_to_lem x key v rest e h =
     ∙ ap (closed (decimal v)) (after_own (x ∷ []) rest)
     ∙ ap₂ (λ t n. cond t (good n rest) bad) (decimal_number v h) (value_decimal v)
 
-line_feed : is_digit_lem 10 ≡ false
-unfolding is_digit_lem between
+line_feed : is_digit 10 ≡ false
+unfolding is_digit between
 line_feed = refl
 
 pub number_line_lem : (key : List ℕ) (v : ℕ) (rest : List ℕ) → v < 10 ^ 7 → number_line key (line key (decimal v) ++ rest) ≡ good v rest

@@ -7,14 +7,14 @@ use Rattle.laws.specs.Text.{text}
 use Rattle.method.specs.declared.Sides.{Sides}
 use Rattle.method.specs.declared.Found.TheVariants.{Nowhere}
 use Rattle.method.specs.Cast.{between}
-use Rattle.method.specs.Numbers.{decimal, is_digit_lem}
+use Rattle.method.specs.Numbers.{decimal, is_digit}
 use Rattle.method.specs.Form.{line, Lines, wrong, right, read_lines}
 use Rattle.method.specs.OldForm.{number_to, old_parts, OldHeader, old_header_of, old_header, old_wrong_line, old_bad_line, size_word, old_header_written}
 use Rattle.theory.proofs.Lines.{Form, spelt, readers, read_spelt, Told, told, number_to_lem, to_number}
 use Rattle.theory.proofs.Reach.{never}
 
 -- ---- the four numbers
-part_to : (x : ℕ) → is_digit_lem x ≡ false → List ℕ → Form
+part_to : (x : ℕ) → is_digit x ≡ false → List ℕ → Form
 part_to x e key = record {
   read = number_to (x ∷ []) key;
   spell = λ v. key ++ decimal v ++ (x ∷ []);
@@ -23,12 +23,12 @@ part_to x e key = record {
   back = λ bs v rest q. let s = to_number x key bs v rest q in (s.bytes, s.small);
 }
 
-no_digit_x : is_digit_lem 120 ≡ false
-unfolding is_digit_lem between
+no_digit_x : is_digit 120 ≡ false
+unfolding is_digit between
 no_digit_x = refl
 
-no_digit_lf : is_digit_lem 10 ≡ false
-unfolding is_digit_lem between
+no_digit_lf : is_digit 10 ≡ false
+unfolding is_digit between
 no_digit_lf = refl
 
 parts : List Form

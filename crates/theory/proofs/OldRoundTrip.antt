@@ -215,9 +215,9 @@ module _ (k : Cast) (u : ℕ) (z : Fine k u) where
           (
             ap (λ h. fault (not (unit_fits h.unit && settings_fit t))) header_is ∙ fault_no (unit_fits u && settings_fit t) (ap₂ ◌&&◌ z.unit f),
             (
-              ap (λ h. label_fault (old_cast_in h)) header_is ∙ ap label_fault cast_is ∙ z.label-fault,
+              ap (λ h. label_fault (old_cast_in h)) header_is ∙ ap label_fault cast_is ∙ z.label_fault_lem,
               (
-                ap (λ h. value_fault (old_cast_in h)) header_is ∙ ap value_fault cast_is ∙ z.value-fault,
+                ap (λ h. value_fault (old_cast_in h)) header_is ∙ ap value_fault cast_is ∙ z.value_fault_lem,
                 tt,
               ),
             ),
@@ -330,7 +330,7 @@ old_read_accepted r lent b v l =
     (ap₂ ◌&&◌ (eq-eqb (length (old_values_in h)) n (length_values h)) (le-leb (length (old_bytes_of (old_again r lent))) (length lent) m)) in
     pass_all old_writer_checks (old_again r lent) (
       fault_no (sides_fit h.sides) z.sides,
-      (fault_no (unit_fits h.unit) z.unit, (fault_no (old_lengths_fit (old_again r lent)) sized, (z.label-fault, (z.value-fault, (all_expressible h z.long u bytes, tt))))),
+      (fault_no (unit_fits h.unit) z.unit, (fault_no (old_lengths_fit (old_again r lent)) sized, (z.label_fault_lem, (z.value_fault_lem, (all_expressible h z.long u bytes, tt))))),
     )
 
 pub old_read_rewritten : (r : OldReading) (lent : List ℕ) → Bytes r.bytes → OldRead0 r → length r.bytes ≤ length lent

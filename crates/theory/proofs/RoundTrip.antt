@@ -17,10 +17,10 @@ use Rattle.method.specs.declared.Order.{Order}
 use Rattle.method.specs.declared.Found.{Found}
 use Rattle.method.specs.declared.Found.TheVariants.{Nowhere, At}
 use Rattle.method.specs.Cast.{Cast, cells, between, sides_fit, settings_fit, label_at, field, widest, bad_value, label_fault, value_fault}
-use Rattle.method.specs.Form.{Header, header, bad_line, value_read, value_written, labels_in_lem, values_in, cast_in, header_written, written}
+use Rattle.method.specs.Form.{Header, header, bad_line, value_read, value_written, labels_in, values_in, cast_in, header_written, written}
 use Rattle.method.specs.Answers.{Check, fault, Verdict, passed, refused, verdict, refusal, done}
 use Rattle.method.specs.Rooms.{filled}
-use Rattle.method.specs.Reading.{Reading, Read, named, line_check, side_check, body_check, room_check, content_checks, reader_checks, reading_by, reading, is_read_lem, not_read}
+use Rattle.method.specs.Reading.{Reading, Read, named, line_check, side_check, body_check, room_check, content_checks, reader_checks, reading_by, reading, is_read, not_read}
 use Rattle.method.specs.Writing.{Writing, Written, bytes_of, writer_lengths_fit, writer_checks, writing}
 use Rattle.laws.proofs.Lists.{length_tab}
 use Rattle.laws.proofs.Bools.{and_l, and_r, so}
@@ -43,8 +43,8 @@ values_row h =
     (λ c l. ap (λ r. value_read h.order (take 4 r)) (sym (drop-drop (4 * c) n h.body)))
 
 -- a body read and written
-body_back : (h : Header) → length h.body ≡ 5 * cells h.sides → Bytes h.body → labels_in_lem h ++ flat_map (value_written h.order) (values_in h) ≡ h.body
-unfolding labels_in_lem
+body_back : (h : Header) → length h.body ≡ 5 * cells h.sides → Bytes h.body → labels_in h ++ flat_map (value_written h.order) (values_in h) ≡ h.body
+unfolding labels_in
 body_back h e b =
     let n = cells h.sides in
     let l : length (drop n h.body) ≡ 4 * n = length-drop n h.body ∙ omega arith in
@@ -64,7 +64,7 @@ read_then_written r b v =
     let h = named r in
     let front = header_written h.sides h.order h.settings in
     let e : front ++ h.body ≡ r.bytes = back_header r.bytes p.0 in
-    append_assoc front (labels_in_lem h) (flat_map (value_written h.order) (values_in h))
+    append_assoc front (labels_in h) (flat_map (value_written h.order) (values_in h))
     ∙ ap (λ l. front ++ l)
     (body_back h (eqb→eq (length h.body) (5 * cells h.sides) (so (no_fault (eqb (length h.body) (5 * cells h.sides)) p.1.1.0)))
     (bytes_after front h.body (subst Bytes (sym e) b)))
@@ -155,7 +155,7 @@ module _ (k : Cast) (o : Order) (t : Settings) (z : Fine k t) where
       omega arith
 
   cast_is : cast_in named_back ≡ k
-  unfolding cast_in labels_in_lem named_back body
+  unfolding cast_in labels_in named_back body
   cast_is =
       let n = cells k.sides in
       let values = flat_map (value_written o) k.values in
@@ -163,7 +163,7 @@ module _ (k : Cast) (o : Order) (t : Settings) (z : Fine k t) where
       (values_row named_back
       ∙ ap (λ r. row o n r) (drop_at k.labels values n z.labels)
       ∙ ap (λ m. row o m values) (sym z.values)
-      ∙ row_back o k.values (λ c l. let e = z.values in let h = value_in_lem k.sides k.labels k.values z.value-fault c (omega arith) in omega arith))
+      ∙ row_back o k.values (λ c l. let e = z.values in let h = value_in_lem k.sides k.labels k.values z.value_fault_lem c (omega arith) in omega arith))
 
   -- the reader's checks pass
   accepted : (vs : List ℤ) → cells k.sides ≤ length vs → AllPass reader_checks (record { bytes = written k o t; values = vs })
@@ -180,9 +180,9 @@ module _ (k : Cast) (o : Order) (t : Settings) (z : Fine k t) where
           (
             ap (λ h. fault (not (settings_fit h.settings))) header_is ∙ fault_no (settings_fit t) z.settings,
             (
-              ap (λ h. label_fault (cast_in h)) header_is ∙ ap label_fault cast_is ∙ z.label-fault,
+              ap (λ h. label_fault (cast_in h)) header_is ∙ ap label_fault cast_is ∙ z.label_fault_lem,
               (
-                ap (λ h. value_fault (cast_in h)) header_is ∙ ap value_fault cast_is ∙ z.value-fault,
+                ap (λ h. value_fault (cast_in h)) header_is ∙ ap value_fault cast_is ∙ z.value_fault_lem,
                 tt,
               ),
             ),
@@ -194,12 +194,12 @@ module _ (k : Cast) (o : Order) (t : Settings) (z : Fine k t) where
 
 -- ---- a verdict and its answer
 -- what reading and writing are where all checks pass
-is_read_lem : (r : Reading) → Read0 r → reading r ≡ is_read_lem r
+is_read_lem : (r : Reading) → Read0 r → reading r ≡ is_read r
 unfolding reading reading_by
 is_read_lem r v = ap after v
   where
     after : Verdict → Read
-    after x = elim x [ refused num place ↦ not_read r (refusal num place) | passed ↦ is_read_lem r ]
+    after x = elim x [ refused num place ↦ not_read r (refusal num place) | passed ↦ is_read r ]
 
 is_written : Writing → Written
 is_written w = record { answer = done; count = length (bytes_of w); output = filled (length (bytes_of w)) (bytes_of w) w.output }
@@ -217,7 +217,7 @@ unfolding reading reading_by not_read refusal reader_checks line_check side_chec
 read_0 r z = go (judge reader_checks r)
   where
     after : Verdict → Read
-    after x = elim x [ refused num place ↦ not_read r (refusal num place) | passed ↦ is_read_lem r ]
+    after x = elim x [ refused num place ↦ not_read r (refusal num place) | passed ↦ is_read r ]
 
     go : Judged reader_checks r → Read0 r
     go (fine v p) = v
@@ -245,7 +245,7 @@ pub written_accepted : (w : Writing) (vs : List ℤ) → Written0 w → cells w.
 written_accepted w vs v l = pass_all reader_checks (to_read w vs) (accepted w.cast w.order w.settings (writer_fine w v) vs l)
 
 pub written_then_read : (w : Writing) (vs : List ℤ) → Written0 w → cells w.cast.sides ≤ length vs → ReadBack w vs (reading (to_read w vs))
-unfolding is_read_lem filled named_back cast_in
+unfolding is_read filled named_back cast_in
 written_then_read w vs v l =
     let z = writer_fine w v in
     let h = header_is w.cast w.order w.settings z in
@@ -255,7 +255,7 @@ written_then_read w vs v l =
       sides = ap (λ h. h.sides) h;
       order = ap (λ h. h.order) h;
       settings = ap (λ h. h.settings) h;
-      labels = ap labels_in_lem h ∙ ap (λ k. k.labels) k;
+      labels = ap labels_in h ∙ ap (λ k. k.labels) k;
       values = ap (λ h. values_in h ++ drop (cells h.sides) vs) h ∙ ap (λ k. k.values ++ drop (cells w.cast.sides) vs) k;
     }
 
@@ -265,8 +265,8 @@ unfolding is_written filled
 written_in_front w v = ap (λ x. take x.count x.output) (is_written_lem w v) ∙ take-append_seam (bytes_of w) (drop (length (bytes_of w)) w.output)
 
 -- ---- READ, THEN WRITTEN by the call itself: accepted, and the same bytes
-length_labels : (h : Header) → length h.body ≡ 5 * cells h.sides → length (labels_in_lem h) ≡ cells h.sides
-unfolding labels_in_lem
+length_labels : (h : Header) → length h.body ≡ 5 * cells h.sides → length (labels_in h) ≡ cells h.sides
+unfolding labels_in
 length_labels h e = length-take-le (cells h.sides) h.body (omega arith)
 
 length_values : (h : Header) → length (values_in h) ≡ cells h.sides
@@ -282,7 +282,7 @@ read_accepted r lent b v l =
     let e = eqb→eq (length h.body) (5 * n) (so (no_fault (eqb (length h.body) (5 * n)) p.1.1.0)) in
     let m : length (bytes_of (again r lent)) ≤ length lent = subst (λ bs. length bs ≤ length lent) (sym (read_then_written r b v)) l in
     let sized : writer_lengths_fit (again r lent) ≡ true =
-    ap₂ ◌&&◌ (eq-eqb (length (labels_in_lem h)) n (length_labels h e))
+    ap₂ ◌&&◌ (eq-eqb (length (labels_in h)) n (length_labels h e))
     (ap₂ ◌&&◌ (eq-eqb (length (values_in h)) n (length_values h)) (le-leb (length (bytes_of (again r lent))) (length lent) m)) in
     pass_all writer_checks (again r lent)
     (p.1.0, (p.1.1.1.1.0, (fault_no (writer_lengths_fit (again r lent)) sized, (p.1.1.1.1.1.0, (p.1.1.1.1.1.1.0, tt)))))

@@ -43,10 +43,10 @@ order-of-requires : tie.Need-order-of-requires
 order-of-requires c κs = search headers
 
 add-t27 : tie.Need-overflow-add-t27
-add-t27 c = on_fits' _ _ c.before.before.before.before.before.before.before.before.before.before.before.before.before.before.before.args.sides _ c.before.before.before.before.before.before.before.before.before.before.before.before.before.rest.ensures c.before.before.before.before.before.before.before.before.before.before.before.before.before.before.before.requires _ c.before.before.before.before.before.before.before.before.before.before.before.before.order-line.ensures _ _ c.before.before.before.before.before.before.before.before.before.before.o.given.1 _ c.before.before.before.before.before.before.before.before.rest2.ensures _ c.before.before.before.before.three-lines.ensures c.before.before.before.before.before.before.before.before.before.before.before.before.before.before.before.well-formed.0.0
+add-t27 c = on_fits' _ _ c.before.before.before.before.before.before.before.before.before.before.before.before.before.before.before.args.sides _ c.before.before.before.before.before.before.before.before.before.before.before.before.before.rest.ensures c.before.before.before.before.before.before.before.before.before.before.before.before.before.before.before.requires _ c.before.before.before.before.before.before.before.before.before.before.before.before.order_line_lem.ensures _ _ c.before.before.before.before.before.before.before.before.before.before.o.given.1 _ c.before.before.before.before.before.before.before.before.rest2.ensures _ c.before.before.before.before.three-lines.ensures c.before.before.before.before.before.before.before.before.before.before.before.before.before.before.before.well-formed.0.0
 
 add-t28 : tie.Need-overflow-add-t28
-add-t28 c = on_fits _ _ c.before.before.before.before.before.before.before.before.before.before.before.before.before.before.before.args.sides _ c.before.before.before.before.before.before.before.before.before.before.before.before.before.rest.ensures c.before.before.before.before.before.before.before.before.before.before.before.before.before.before.before.requires _ c.before.before.before.before.before.before.before.before.before.before.before.before.order-line.ensures _ _ c.before.before.before.before.before.before.before.before.before.before.o.given.1 _ c.before.before.before.before.before.before.before.before.rest2.ensures _ c.before.before.before.before.three-lines.ensures _ _ _ _ c.before.before.tolerance.given.1 c.before.before.before.before.before.before.before.before.before.before.before.before.before.before.before.well-formed.0.0
+add-t28 c = on_fits _ _ c.before.before.before.before.before.before.before.before.before.before.before.before.before.before.before.args.sides _ c.before.before.before.before.before.before.before.before.before.before.before.before.before.rest.ensures c.before.before.before.before.before.before.before.before.before.before.before.before.before.before.before.requires _ c.before.before.before.before.before.before.before.before.before.before.before.before.order_line_lem.ensures _ _ c.before.before.before.before.before.before.before.before.before.before.o.given.1 _ c.before.before.before.before.before.before.before.before.rest2.ensures _ c.before.before.before.before.three-lines.ensures _ _ _ _ c.before.before.tolerance.given.1 c.before.before.before.before.before.before.before.before.before.before.before.before.before.before.before.well-formed.0.0
 
 returns-2 : tie.Need-returns-2
 returns-2 c = search headers

@@ -53,10 +53,10 @@ returns-3 : tie.Need-returns-3
 returns-3 c = search threes
 
 add-t19 : tie.Need-overflow-add-t19
-add-t19 c = two_fits 0 _ _ [] _ _ c.before.before.before.before.before.before.before.before.before.before.before.before.before.number-line.ensures _ _ c.before.before.before.before.before.before.before.before.before.before.before.x.given.1 _ c.before.before.before.before.before.before.before.before.before.rest.ensures _ c.before.before.before.before.before.before.before.before.number-line2.ensures _ _ c.before.before.before.before.before.before.y.given.1 c.before.before.before.before.before.before.before.before.before.before.before.before.before.before.before.before.before.before.well-formed.0.0
+add-t19 c = two_fits 0 _ _ [] _ _ c.before.before.before.before.before.before.before.before.before.before.before.before.before.number_line_lem.ensures _ _ c.before.before.before.before.before.before.before.before.before.before.before.x.given.1 _ c.before.before.before.before.before.before.before.before.before.rest.ensures _ c.before.before.before.before.before.before.before.before.number-line2.ensures _ _ c.before.before.before.before.before.before.y.given.1 c.before.before.before.before.before.before.before.before.before.before.before.before.before.before.before.before.before.before.well-formed.0.0
 
 add-t20 : tie.Need-overflow-add-t20
-add-t20 c = three-fits 0 _ _ _ _ _ c.before.before.before.before.before.before.before.before.before.before.before.before.before.number-line.ensures _ _ c.before.before.before.before.before.before.before.before.before.before.before.x.given.1 _ c.before.before.before.before.before.before.before.before.before.rest.ensures _ c.before.before.before.before.before.before.before.before.number-line2.ensures _ _ c.before.before.before.before.before.before.y.given.1 _ c.before.before.before.before.rest2.ensures _ c.before.before.before.number-line3.ensures _ _ c.before.z.given.1 c.before.before.before.before.before.before.before.before.before.before.before.before.before.before.before.before.before.before.well-formed.0.0
+add-t20 c = three-fits 0 _ _ _ _ _ c.before.before.before.before.before.before.before.before.before.before.before.before.before.number_line_lem.ensures _ _ c.before.before.before.before.before.before.before.before.before.before.before.x.given.1 _ c.before.before.before.before.before.before.before.before.before.rest.ensures _ c.before.before.before.before.before.before.before.before.number-line2.ensures _ _ c.before.before.before.before.before.before.y.given.1 _ c.before.before.before.before.rest2.ensures _ c.before.before.before.number-line3.ensures _ _ c.before.z.given.1 c.before.before.before.before.before.before.before.before.before.before.before.before.before.before.before.before.before.before.well-formed.0.0
 
 returns-4 : tie.Need-returns-4
 returns-4 c = search threes

@@ -2,13 +2,13 @@
 use Prim.Native.Nat.{◌≤◌, ◌-◌}
 use mathlib.Core.Path.{◌≡◌}
 use lib.ListN.{length}
-use Rattle.session_values.specs.Body.{value_in_lem}
+use Rattle.session_values.specs.Body.{value_in}
 use Rattle.session_values.proofs.WordLaws.{stores, Stored}
 use Rattle.session_values.proofs.store_values.Statement.{statement}
 use Rattle.session_values.proofs.store_values.Tie as tie
 
 abbrev invariant-loop : tie.invariant-loop
-invariant-loop body n order values₀ c₀ values c = (c ≤ n) × (length values ≡ length values₀) × Stored (value_in_lem body n order) values₀ c values
+invariant-loop body n order values₀ c₀ values c = (c ≤ n) × (length values ≡ length values₀) × Stored (value_in body n order) values₀ c values
 
 abbrev decreases-loop : tie.decreases-loop
 decreases-loop body n order values₀ c₀ values c = n - c

@@ -30,7 +30,7 @@ returns-2 c =
     let found = c.before.before in
     let counted = found.before.before in
     let start = counted.before.before.before.before in
-    slices-cells start.args.sides start.args.unit _ _ start.args.room _ counted.before.before.lengths-fit.ensures (not-false _ counted.before.if1.false) _ counted.cell-count.ensures.0 _ _ _ _
+    slices-cells start.args.sides start.args.unit _ _ start.args.room _ counted.before.before.lengths_fit_lem.ensures (not-false _ counted.before.if1.false) _ counted.cell-count.ensures.0 _ _ _ _
     c.earlier.ensures found.before.judge-cells.ensures c.before.ruled.ensures found.first-inexpressible.ensures
 
 pub judge-slices-spec : {M : Type 1} → statement M

@@ -13,7 +13,7 @@ lengths-fit-requires : tie.Need-lengths-fit-requires
 lengths-fit-requires c κs = search rules
 
 judge-content-requires : tie.Need-judge-content-requires
-judge-content-requires c κs = (search judging, (search judging, (search judging, (labels_known _ _ _ _ _ _ _ _ c.before.lengths-fit.ensures c.if2.true, values_known _ _ _ _ _ _ _ _ c.before.lengths-fit.ensures c.if2.true))))
+judge-content-requires c κs = (search judging, (search judging, (search judging, (labels_known _ _ _ _ _ _ _ _ c.before.lengths_fit_lem.ensures c.if2.true, values_known _ _ _ _ _ _ _ _ c.before.lengths_fit_lem.ensures c.if2.true))))
 
 returns : tie.Need-returns
 returns c = search judging

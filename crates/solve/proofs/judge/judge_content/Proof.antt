@@ -41,7 +41,7 @@ returns c =
     let fault = third.before in
     let settings = fault.before in
     let start = settings.before.before in
-    content_is _ _ _ _ _ _ _ _ _ _ _ _ _ _ start.requires.1.1.1.0 start.requires.1.0 settings.settings-fit.ensures fault.fault-unless.ensures third.ruled.ensures
+    content_is _ _ _ _ _ _ _ _ _ _ _ _ _ _ start.requires.1.1.1.0 start.requires.1.0 settings.settings_fit_lem.ensures fault.fault-unless.ensures third.ruled.ensures
     cells.judge-cells.ensures air.has_air.ensures none.fault-unless2.ensures sixth.ruled2.ensures joined.earlier.ensures c.earlier2.ensures
 
 pub judge-content-spec : {M : Type 1} → statement M
