@@ -1,5 +1,7 @@
 // Document 01's test of a round: x rounded to whole ticks, and judged by the exact residuals that these leave. Each
 // tick is taken from x where it is wanted, so the test needs no room.
+#![tactic(auto)]
+
 ghost use Rattle.std.specs.Prelude.{◌≡◌, ◌≤◌, ◌<◌, ◌^◌, nat_abs, length, set};
 ghost use Rattle.method.specs.Cast.{cells, label_at, field};
 ghost use Rattle.method.specs.Transfers.{value};
@@ -14,7 +16,7 @@ use method::{Settings, Sides, Tick};
 use ticks::Faces;
 
 // What the test finds: the worst residual where x passes.
-#[derive(Drop)]
+#[derive(Clone, Copy)]
 pub enum Tested {
     Passed(u32),
     Failed,

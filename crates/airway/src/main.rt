@@ -2,6 +2,8 @@
 // for 1,000 cells.
 // An input may have any length: its first 5,095 bytes decide what is printed (`front_is_enough`, crates/prints), so no
 // more are read.
+#![tactic(auto)]
+
 ghost use Rattle.std.specs.Prelude.{◌≡◌, ◌≤◌, length, take};
 ghost use Rattle.method.specs.Program.{program_room};
 ghost use Rattle.prints.specs.Prints.{input_room};

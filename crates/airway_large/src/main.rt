@@ -2,6 +2,8 @@
 // program prints it, with rooms for 32,768 cells.
 // An input may have any length: its first 163,935 bytes decide what is printed (`front_is_enough_for`, crates/prints),
 // so no more are read.
+#![tactic(auto)]
+
 ghost use Rattle.std.specs.Prelude.{◌≡◌, ◌≤◌, length, take};
 ghost use Rattle.prints.specs.Prints.{buffer_for, large_room};
 ghost use Rattle.answer_session.specs.Responds.{Roomy, FrontOf};

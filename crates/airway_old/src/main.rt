@@ -3,6 +3,8 @@
 // nothing); the answer on standard output, as document 01's program prints it, with rooms for 32,768 cells.
 // An input may have any length: its first 98,347 bytes decide what is printed (`old_front_prints`, crates/prints), so
 // no more are read.
+#![tactic(auto)]
+
 ghost use Rattle.std.specs.Prelude.{◌≡◌, ◌≤◌, length, take};
 ghost use Rattle.prints.specs.Prints.{large_room, old_buffer};
 ghost use Rattle.answer_session.specs.Responds.{Roomy};

@@ -3,6 +3,8 @@
 // nothing); the new session on standard output, or on a refusal nothing there and the answer's lines on standard error.
 // There is room for 32,768 cells. An input may have any length: its first 98,347 bytes decide (`old_front_renews`,
 // crates/prints), so no more are read.
+#![tactic(auto)]
+
 ghost use Rattle.std.specs.Prelude.{◌≡◌, ◌≤◌, length, take};
 ghost use Rattle.prints.specs.Prints.{buffer_for, large_room, old_buffer};
 ghost use Rattle.renew.specs.Renews.{RenewProgramOf};

@@ -1,5 +1,7 @@
 // The answer to one old session, with settings that the caller passes, printed as the program prints (document 02, wish
 // 2): the reader's where it refuses, else the solver's.
+#![tactic(auto)]
+
 ghost use Rattle.std.specs.Prelude.{length};
 ghost use Rattle.method.specs.OldProgram.{old_printed};
 ghost use Rattle.answer_print.specs.Shows.{print_room, PutShort};

@@ -1,5 +1,7 @@
 // The print of an answer (document 01, "The program", and document 02, wish 5): eight lines, and on 0 a line for each
 // pressure.
+#![tactic(auto)]
+
 ghost use Rattle.std.specs.Prelude.{◌≡◌, ◌+◌, ◌*◌, ◌≤◌, length};
 ghost use mathlib.Core.List.{flat_map};
 ghost use Rattle.method.specs.Form.{line};

@@ -1,4 +1,6 @@
 // The answer to one session, printed (document 01, "The program"): the reader's where it refuses, else the solver's.
+#![tactic(auto)]
+
 ghost use Rattle.std.specs.Prelude.{◌≡◌, false, ◌&&◌, ◌≤◌, ltb, length};
 ghost use Rattle.method.specs.Cast.{cells, sides_fit};
 ghost use Rattle.method.specs.Solving.{solving};

@@ -1,5 +1,7 @@
 // The makers of answers: every answer of the solver, the reader and the writer is made here, so a field more is a line
 // in each.
+#![tactic(auto)]
+
 ghost use Rattle.std.specs.Prelude.{◌≡◌};
 ghost use Rattle.method.specs.Answers.{refusal as Answers·refusal, accepted as Answers·accepted, unfinished as Answers·unfinished};
 ghost use Rattle.answers.specs.Ends.{without_worst};
@@ -7,21 +9,21 @@ ghost use Rattle.answers.specs.Ends.{without_worst};
 use method::Answer;
 
 // How the rounds ended: accepted after so many with this worst residual, or with 8 or 9 after so many.
-#[derive(Drop)]
+#[derive(Clone, Copy)]
 pub enum Ended {
     Accepted(u32, u32),
     Unfinished(u32, u32),
 }
 
 // Where the residual is worst, and that residual with its sign.
-#[derive(Drop)]
+#[derive(Clone, Copy)]
 pub struct Worst {
     pub cell: u32,
     pub left: i32,
 }
 
 // What an answer says of the cast alone: its air cells, and the greatest of their distances to an opening.
-#[derive(Drop)]
+#[derive(Clone, Copy)]
 pub struct Measured {
     pub interior: u32,
     pub depth: u32,

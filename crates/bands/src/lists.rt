@@ -16,7 +16,7 @@ use levels::sides::Levels;
 use method::Sides;
 
 // Where each level's list starts, how much of it is swept, and how long it is; 0 on levels that aren't used.
-#[derive(Drop)]
+#[derive(Clone, Copy)]
 pub struct Lists {
     pub start: [usize; 6],
     pub count: [usize; 6],
@@ -24,14 +24,14 @@ pub struct Lists {
 }
 
 // Of one level: how much of its list is swept, and how long it is.
-#[derive(Drop)]
+#[derive(Clone, Copy)]
 pub struct Counts {
     pub swept: usize,
     pub air: usize,
 }
 
 // The lists written down so far, and the place after them.
-#[derive(Drop)]
+#[derive(Clone, Copy)]
 pub struct Gather {
     pub lists: Lists,
     pub next: usize,

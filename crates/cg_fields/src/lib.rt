@@ -1,5 +1,7 @@
 // What a round of conjugate gradients does to the fields, in a room that holds x, p, z, r and t, one element a cell
 // each, and what follows: the start, and the direction at one cell.
+#![tactic(auto)]
+
 ghost use Rattle.std.specs.Prelude.{◌≡◌, ◌++◌, ◌*◌, ◌<◌, length, take, drop};
 ghost use Rattle.method.specs.Cast.{cells};
 ghost use Rattle.method.specs.Cycle.{zeros};

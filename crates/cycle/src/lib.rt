@@ -1,5 +1,7 @@
 // The V-cycle in binary64, in the lent rooms: each level works on u, b and t at the front of its part of the room, and
 // lends what follows to the next coarser level. The last element of all these rooms is the same one, and is zero.
+#![tactic(auto)]
+
 ghost use Rattle.std.specs.Prelude.{◌≡◌, ◌++◌, ◌+◌, ◌-◌, ◌*◌, ◌≤◌, ◌<◌, length, set, drop};
 ghost use Rattle.laws.specs.Binary64.{+0};
 ghost use Rattle.method.specs.Cast.{cells, is_air};

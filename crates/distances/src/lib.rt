@@ -1,6 +1,8 @@
 // The search for distances: from the openings outwards, each cell once, in a lent room of marks and a queue.
 // The marks come first, one for each cell: 0, or one more than the cell's distance. The queue of cells comes after
 // them.
+#![tactic(auto)]
+
 ghost use Rattle.std.specs.Prelude.{◌≡◌, ◌∷◌, [], ◌<◌, ◌≤◌, length};
 ghost use Rattle.laws.specs.Loops.{up};
 ghost use Rattle.method.specs.Cast.{cells, is_air, is_opening, around, first};
@@ -9,7 +11,7 @@ ghost use Rattle.distances.specs.Search.{queue, reach, reach_all, sideways, turn
 use grid::near::{step_back, step_on};
 
 // What the walks of a cast come to.
-#[derive(Drop)]
+#[derive(Clone, Copy)]
 pub struct Walked {
     // the greatest distance of an air cell
     pub depth: u32,

@@ -1,4 +1,6 @@
 // The cast in code.
+#![tactic(auto)]
+
 pub mod entry;
 pub mod interior;
 pub mod near;

@@ -4,7 +4,7 @@ ghost use Rattle.method.specs.Cast.{cells, number};
 ghost use Rattle.theory.specs.Sides.{Fit};
 ghost use Rattle.grid.specs.Place.{SpotOf, place_at};
 
-#[derive(Drop)]
+#[derive(Clone, Copy)]
 pub struct Spot {
     pub x: usize,
     pub y: usize,

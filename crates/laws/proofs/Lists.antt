@@ -43,6 +43,7 @@ module _ {A : Type 0} where
   pub any_in : (f : A → Bool) (l : List A) (x : A) → Memᴰ x l → T (f x) → T (any f l)
   unfolding any
   any_in f (a ∷ l) x (Memᴰ.head e) t = or_l (f a) (any f l) (rw (← e) t)
+  any_in f [] x x4 t = elim x4 [ ]
   any_in f (a ∷ l) x (Memᴰ.tail m) t = or_r (f a) (any f l) (any_in f l x m t)
 
   pub any_cong : (f g : A → Bool) (l : List A) → ((x : A) → f x ≡ g x) → any f l ≡ any g l

@@ -5,7 +5,7 @@ ghost use Rattle.theory.specs.Sides.{Fit};
 ghost use Rattle.levels.specs.Levels.{level_set, fill_step, levels_of, sides_in};
 
 // Six levels, whatever the number of levels used.
-#[derive(Drop)]
+#[derive(Clone, Copy)]
 pub struct Levels {
     pub start: [usize; 6],
     pub nx: [u32; 6],
@@ -14,7 +14,7 @@ pub struct Levels {
 }
 
 // The levels written down so far, and where the next one starts with its sides.
-#[derive(Drop)]
+#[derive(Clone, Copy)]
 pub struct Fill {
     pub levels: Levels,
     pub at: usize,

@@ -1,5 +1,7 @@
 // What the comparisons call through C and no user needs: the cycle, the walks, ticks and an old session's label part by
 // themselves. Linked into compare/harness.c alone.
+#![tactic(auto)]
+
 ghost use Rattle.std.specs.Prelude.{◌≡◌, ◌-◌, length};
 ghost use Rattle.method.specs.Cast.{cells};
 ghost use Rattle.method.specs.Cycle.{cycle};
@@ -19,7 +21,7 @@ use method::{Found, Settings, Sides, Tick};
 // What a walk through a cast found: whether the cast and the room fit (else all is 0), depth, and the first sealed cell
 // if there is one.
 #[repr(C)]
-#[derive(Drop)]
+#[derive(Clone, Copy)]
 pub struct Walk {
     pub fits: u32,
     pub depth: u32,
@@ -29,7 +31,7 @@ pub struct Walk {
 
 // A binary64 as a whole tick, if it is one.
 #[repr(C)]
-#[derive(Drop)]
+#[derive(Clone, Copy)]
 pub struct Ticked {
     pub whole: u32,
     pub value: i64,

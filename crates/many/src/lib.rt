@@ -1,5 +1,7 @@
 // One cast with many sets (document 02, wish 1): the labels are checked and coarsened once, then each set is solved
 // on the prepared cast.
+#![tactic(auto)]
+
 ghost use Rattle.std.specs.Prelude.{◌≡◌, ◌+◌, ◌*◌, length};
 ghost use Rattle.many.specs.ManySolve.{asked_many, SolveManyOf, ManyChecked, ManyWorked};
 

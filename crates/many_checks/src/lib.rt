@@ -1,4 +1,6 @@
 // One cast with many sets (document 02, wish 1): the checks of the whole call before 7, in their order 1, 2, 3, 4, 6.
+#![tactic(auto)]
+
 ghost use Rattle.std.specs.Prelude.{◌≡◌, ◌&&◌, ◌*◌, ◌≤◌, length};
 ghost use Rattle.method.specs.Cast.{cells, settings_fit};
 ghost use Rattle.theory.specs.Sides.{Fit};
@@ -12,7 +14,7 @@ use grid::place::cell_count;
 use method::{Settings, Sides};
 
 // The lengths of what is lent, beside the labels: values, pressures and answers of all sets, and the rooms.
-#[derive(Drop)]
+#[derive(Clone, Copy)]
 pub struct Lengths {
     pub values: usize,
     pub pressures: usize,

@@ -1,5 +1,7 @@
 // One cast with many sets (document 02, wish 1), past check 7: each set on the prepared cast, its answer and its
 // pressures into their own stretches.
+#![tactic(auto)]
+
 ghost use Rattle.std.specs.Prelude.{◌≡◌, ◌+◌, ◌≤◌, pos, length};
 ghost use Rattle.method.specs.Cast.{cells};
 ghost use Rattle.method.specs.Many.{fields, field_count};

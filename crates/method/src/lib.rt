@@ -1,9 +1,10 @@
 // The types that the meaning and the code share. No code: what they mean stands in specs/. Those of the C interface are
 // laid out as C lays them out.
+#![tactic(auto)]
 
 // The sides of a box of cells.
 #[repr(C)]
-#[derive(Drop)]
+#[derive(Clone, Copy)]
 pub struct Sides {
     pub nx: u32,
     pub ny: u32,
@@ -11,14 +12,14 @@ pub struct Sides {
 }
 
 // The byte order that a session names.
-#[derive(Drop)]
+#[derive(Clone, Copy)]
 pub enum Order {
     Big,
     Little,
 }
 
 #[repr(C)]
-#[derive(Drop)]
+#[derive(Clone, Copy)]
 pub struct Settings {
     pub tolerance: u32,
     pub levels: u32,
@@ -27,7 +28,7 @@ pub struct Settings {
 
 // What comes back from every call.
 #[repr(C)]
-#[derive(Drop)]
+#[derive(Clone, Copy)]
 pub struct Answer {
     pub number: u32,
     pub place: u32,
@@ -40,21 +41,21 @@ pub struct Answer {
 }
 
 // The first place of what is looked for.
-#[derive(Drop)]
+#[derive(Clone, Copy)]
 pub enum Found {
     Nowhere,
     At(u32),
 }
 
 // A binary64 as a whole tick.
-#[derive(Drop)]
+#[derive(Clone, Copy)]
 pub enum Tick {
     Whole(i64),
     Refused,
 }
 
 // The four scalars of a round.
-#[derive(Drop)]
+#[derive(Clone, Copy)]
 pub struct Scalars {
     pub rho: f64,
     pub sigma: f64,
@@ -63,7 +64,7 @@ pub struct Scalars {
 }
 
 // What a step hands back: alpha, or the scalar that stalled it.
-#[derive(Drop)]
+#[derive(Clone, Copy)]
 pub enum Step {
     Go(f64),
     Stalled(f64),

@@ -1,4 +1,6 @@
 // The header of an old session: the line of its size and that of its unit (document 02, wish 2).
+#![tactic(auto)]
+
 ghost use Rattle.std.specs.Prelude.{◌≡◌};
 ghost use Rattle.method.specs.OldForm.{unit_fits};
 ghost use Rattle.old_header.specs.OldLines.{SizeOf, OldHeaderOf};
@@ -8,14 +10,14 @@ use session_header::LineRead;
 use session_header::line::{number_to, rest};
 
 // The line of the size, read: not of the form, or the sides and how many bytes it took.
-#[derive(Drop)]
+#[derive(Clone, Copy)]
 enum SizeRead {
     NotOfForm,
     Named(Sides, usize),
 }
 
 // What the two lines name, and where the body starts.
-#[derive(Drop)]
+#[derive(Clone, Copy)]
 pub struct OldHeader {
     pub sides: Sides,
     pub unit: u32,
@@ -23,7 +25,7 @@ pub struct OldHeader {
 }
 
 // The two lines, read: the number of the first that is not of the form, or what they name.
-#[derive(Drop)]
+#[derive(Clone, Copy)]
 pub enum OldHeaderRead {
     Wrong(u32),
     Named(OldHeader),

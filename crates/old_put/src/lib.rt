@@ -1,4 +1,6 @@
 // The bytes of an old session, put into a lent output: two lines, values, labels (document 02, wish 2).
+#![tactic(auto)]
+
 pub mod length;
 mod values;
 

@@ -1,4 +1,6 @@
 // The reader of an old session (document 02, wish 2).
+#![tactic(auto)]
+
 mod judge;
 mod values;
 
@@ -15,7 +17,7 @@ use session_header::line::rest;
 use values::store_values;
 
 // An old session, judged: number and place of the first check that fails, or what its lines name.
-#[derive(Drop)]
+#[derive(Clone, Copy)]
 enum Judged {
     Refused(u32, u32),
     Passed(OldHeader),
@@ -23,7 +25,7 @@ enum Judged {
 
 // What the reader hands back: the label part of the bytes begins at `start`.
 #[repr(C)]
-#[derive(Drop)]
+#[derive(Clone, Copy)]
 pub struct OldSession {
     pub answer: Answer,
     pub sides: Sides,
@@ -32,7 +34,7 @@ pub struct OldSession {
 }
 
 // What is taken of a session: what is handed back, where the body starts, and how many cells are read.
-#[derive(Drop)]
+#[derive(Clone, Copy)]
 struct Taken {
     session: OldSession,
     body: usize,

@@ -1,4 +1,6 @@
 // The writer of an old session (document 02, wish 2).
+#![tactic(auto)]
+
 mod judge;
 mod units;
 

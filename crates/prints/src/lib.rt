@@ -1,1 +1,2 @@
 // Theorems about the program's print: what it depends on, and what it does not. No code.
+#![tactic(auto)]

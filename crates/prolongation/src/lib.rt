@@ -1,6 +1,8 @@
 // Prolongation, a row of fine cells at a time: the four coarse rows in ascending order, each added to the sums of all
 // fine cells of the row, which stand in t. What isn't air holds +0.0 and adds nothing, so no coarse label is read; then
 // each sum over 16 is added to u where the fine cell is air.
+#![tactic(auto)]
+
 ghost use Rattle.std.specs.Prelude.{◌≡◌, ◌+◌, ◌-◌, ◌*◌, ◌/◌, ◌%◌, ◌≤◌, ◌<◌, length, take, drop};
 ghost use Rattle.laws.specs.Loops.{up};
 ghost use Rattle.method.specs.Cast.{cells};

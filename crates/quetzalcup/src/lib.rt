@@ -1,5 +1,7 @@
 // The C interface (include/quetzalcup.h): each function calls the one that it names, hands on its whole promise and
 // asks nothing of its caller.
+#![tactic(auto)]
+
 ghost use Rattle.std.specs.Prelude.{◌≡◌};
 ghost use Rattle.method.specs.Rooms.{byte_need, float_need, word_need};
 ghost use Rattle.solve.specs.Solve.{asked, SolveOf};
@@ -18,7 +20,7 @@ use session_write::Written;
 
 // What is to be solved or written, beside the cells.
 #[repr(C)]
-#[derive(Drop)]
+#[derive(Clone, Copy)]
 pub struct Task {
     pub sides: Sides,
     pub settings: Settings,
@@ -26,7 +28,7 @@ pub struct Task {
 
 // What the reader hands back: the order by its number, and where in the bytes the label part starts.
 #[repr(C)]
-#[derive(Drop)]
+#[derive(Clone, Copy)]
 pub struct Read {
     pub answer: Answer,
     pub sides: Sides,

@@ -1,4 +1,6 @@
 // An old session in the new form, with an order and settings that the caller passes (document 02, wish 2).
+#![tactic(auto)]
+
 ghost use Rattle.std.specs.Prelude.{◌≤◌, length};
 ghost use Rattle.prints.specs.Prints.{buffer_for};
 ghost use Rattle.answer_old_session.specs.OldResponds.{OldIsRead};

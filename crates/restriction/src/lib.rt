@@ -1,6 +1,8 @@
 // Restriction, a row of coarse cells at a time: the sixteen fine rows in ascending order, each added to all coarse
 // cells of the row. What isn't air holds +0.0 and adds nothing, so no fine label is read; then each sum over 512 where
 // the coarse cell is air.
+#![tactic(auto)]
+
 ghost use Rattle.std.specs.Prelude.{◌≡◌, ◌+◌, ◌*◌, ◌/◌, ◌%◌, ◌≤◌, ◌<◌, length, take, drop};
 ghost use Rattle.laws.specs.Loops.{up};
 ghost use Rattle.method.specs.Cast.{cells};

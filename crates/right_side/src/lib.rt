@@ -1,5 +1,7 @@
 // The right side b: at a cell its source and the levels of the openings across its faces, summed as whole numbers and
 // converted once.
+#![tactic(auto)]
+
 ghost use Rattle.std.specs.Prelude.{◌≡◌, ◌≤◌, ◌<◌, ◌^◌, nat_abs, length};
 ghost use Rattle.laws.specs.Binary64.{ofℤ};
 ghost use Rattle.method.specs.Cast.{cells};

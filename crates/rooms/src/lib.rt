@@ -1,5 +1,7 @@
 // The solver's rooms: how much of each a cast of n cells needs, and how it is handed back. One loop for each kind of
 // element, of which all clearing is made.
+#![tactic(auto)]
+
 ghost use Rattle.std.specs.Prelude.{◌≡◌, ◌≤◌, length};
 ghost use Rattle.laws.specs.Binary64.{+0};
 ghost use Rattle.method.specs.Rooms.{byte_need, float_need, word_need, cleared};

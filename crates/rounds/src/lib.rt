@@ -1,5 +1,7 @@
 // The rounds of conjugate gradients with the V-cycle as preconditioner (document 01, "The rounds"). The binary64 room
 // holds x | p | z r t | and the coarser levels' fields; the cycle works on the room from z on, with z r t as its u b t.
+#![tactic(auto)]
+
 mod scalars;
 
 ghost use Rattle.std.specs.Prelude.{◌≡◌, ◌*◌, ◌≤◌, ◌<◌, length, true};
@@ -17,7 +19,7 @@ use method::{Settings, Sides, Step};
 use scalars::{scalars_of, step_of};
 
 // What a cycle needs beside its rooms: where the levels and their lists stand, and how many levels are used.
-#[derive(Drop)]
+#[derive(Clone, Copy)]
 pub struct Plan {
     pub levels: Levels,
     pub lists: Lists,

@@ -1,4 +1,6 @@
 // The bytes of a session, put into a lent output: header, labels, values.
+#![tactic(auto)]
+
 pub mod length;
 
 ghost use Rattle.std.specs.Prelude.{◌≡◌, ◌+◌, ◌*◌, ◌/◌, ◌%◌, ◌<◌, ◌≤◌, length};

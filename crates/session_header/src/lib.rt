@@ -1,4 +1,6 @@
 // The header of a session: its seven lines (document 01, "The session form").
+#![tactic(auto)]
+
 pub mod line;
 
 ghost use Rattle.std.specs.Prelude.{◌≡◌, ◌≤◌, length};
@@ -9,7 +11,7 @@ use line::{number_line, order_line, rest};
 use method::{Order, Settings, Sides};
 
 // One line, read: not of the form, or its value and how many bytes it took.
-#[derive(Drop)]
+#[derive(Clone, Copy)]
 pub enum LineRead {
     NotOfForm,
     Value(u32, usize),
@@ -17,14 +19,14 @@ pub enum LineRead {
 
 // Three lines of numbers, read: the number of the first that is not of the form, or the values and how many bytes they
 // took.
-#[derive(Drop)]
+#[derive(Clone, Copy)]
 enum ThreeRead {
     Wrong(u32),
     Values(u32, u32, u32, usize),
 }
 
 // What the seven lines name, and where the body starts.
-#[derive(Drop)]
+#[derive(Clone, Copy)]
 pub struct Header {
     pub sides: Sides,
     pub order: Order,
@@ -33,7 +35,7 @@ pub struct Header {
 }
 
 // The seven lines, read: the number of the first that is not of the form, or what they name.
-#[derive(Drop)]
+#[derive(Clone, Copy)]
 pub enum HeaderRead {
     Wrong(u32),
     Named(Header),

@@ -1,4 +1,6 @@
 // The reader of a session (document 01, "The session form").
+#![tactic(auto)]
+
 mod content;
 mod judge;
 mod sizes;
@@ -17,14 +19,14 @@ use session_header::{Header, HeaderRead, read_header};
 use session_values::store_values;
 
 // A session, judged: number and place of the first check that fails, or what the header names.
-#[derive(Drop)]
+#[derive(Clone, Copy)]
 enum Judged {
     Refused(u32, u32),
     Passed(Header),
 }
 
 // What the reader hands back beside the label part, and where in the bytes that part starts.
-#[derive(Drop)]
+#[derive(Clone, Copy)]
 pub struct Session {
     pub answer: Answer,
     pub sides: Sides,
@@ -34,7 +36,7 @@ pub struct Session {
 }
 
 // What is taken of a session: what is handed back, and how many cells are read.
-#[derive(Drop)]
+#[derive(Clone, Copy)]
 struct Taken {
     session: Session,
     count: usize,

@@ -1,4 +1,6 @@
 // Values of four bytes: read in the order that the session names, checked, stored.
+#![tactic(auto)]
+
 ghost use Rattle.std.specs.Prelude.{◌≡◌, [], ◌∷◌, ◌+◌, ◌*◌, ◌≤◌, ◌<◌, length, take, drop};
 ghost use Rattle.laws.specs.Lists.{tab};
 ghost use Rattle.method.specs.Rooms.{filled};

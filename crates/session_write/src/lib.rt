@@ -1,4 +1,6 @@
 // The writer of a session (document 01, "The session form").
+#![tactic(auto)]
+
 mod judge;
 
 ghost use Rattle.session_write.specs.Writes.{WriteOf};
@@ -11,7 +13,7 @@ use session_bytes::put_session;
 
 // What the writer hands back.
 #[repr(C)]
-#[derive(Drop)]
+#[derive(Clone, Copy)]
 pub struct Written {
     pub answer: Answer,
     pub count: usize,

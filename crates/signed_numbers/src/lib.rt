@@ -1,5 +1,7 @@
 // The few operations on i64 through which all signed code goes. Their contracts speak of whole numbers and of sizes, so
 // that no caller meets the bits.
+#![tactic(auto)]
+
 ghost use Rattle.std.specs.Prelude.{◌≡◌, ◌+◌, ◌^◌, ◌<◌, ◌≤◌, pos, nat_abs};
 ghost use Rattle.laws.specs.Whole.{◌+ᶻ◌, ◌-ᶻ◌, ◌*ᶻ◌};
 

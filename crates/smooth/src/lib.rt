@@ -1,5 +1,7 @@
 // One level of the V-cycle in binary64: sweeps, Jacobi and the residual on a room that holds the fields u, b and t, one
 // element a cell each, and what follows. Openings count as zero.
+#![tactic(auto)]
+
 ghost use Rattle.std.specs.Prelude.{◌≡◌, ◌++◌, ◌+◌, ◌*◌, ◌≤◌, length, take, drop};
 ghost use Rattle.laws.specs.Binary64.{+0};
 ghost use Rattle.laws.specs.Lists.{tab};

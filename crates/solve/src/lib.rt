@@ -1,5 +1,7 @@
 // The solver's entry point (document 01, "What comes back"): refusals in their order, then three parts: prepare, run,
 // clear.
+#![tactic(auto)]
+
 mod judge;
 pub mod prepare;
 

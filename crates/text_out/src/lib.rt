@@ -1,4 +1,6 @@
 // Bytes, numbers and lines put into a lent output, one part after the other.
+#![tactic(auto)]
+
 pub mod decimal;
 
 ghost use Rattle.std.specs.Prelude.{◌++◌, ◌+◌, ◌≤◌, length};

@@ -1,11 +1,13 @@
 // The exact residual in whole ticks, for pressures within 2^41, from its four numbers.
+#![tactic(auto)]
+
 pub mod tick;
 
 ghost use Rattle.std.specs.Prelude.{◌≡◌, ◌^◌, ◌≤◌, pos, unsigned_abs};
 ghost use Rattle.laws.specs.Whole.{◌+ᶻ◌, ◌-ᶻ◌, ◌*ᶻ◌};
 
 // Of the cells across a cell's faces: how many are no walls, and the sum of their pressures.
-#[derive(Drop)]
+#[derive(Clone, Copy)]
 pub struct Faces {
     pub d: u32,
     pub sum: i64,

@@ -1,4 +1,6 @@
 // Where the residual of an accepted answer is worst (document 02, wish 5): one more walk over the air on a pass.
+#![tactic(auto)]
+
 ghost use Rattle.std.specs.Prelude.{◌≡◌, ◌<◌};
 ghost use Rattle.method.specs.Cast.{cells, first, is_worst};
 ghost use Rattle.acceptance.specs.Cells.{rounded_on};
