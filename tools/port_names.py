@@ -2,6 +2,7 @@
 """Respells this repository's own names of specs/ and proofs/: words and lemmas in snake case, facts and types in camel case.
 
 usage: python3 tools/port_names.py [--list]      at the top of the repository, once, after the kit's port.py; --list changes nothing
+       python3 tools/port_names.py --deep        after it, once: the same for the lemmas inside of lemmas and of modules in modules
 
 A name is one that specs/*.antt or proofs/*.antt of a crate states, or a field or a constructor there: `labelAt` becomes `label_at`,
 `place-inside` becomes `place_inside`. What the check itself makes (proofs/F/ of a function F: the names of goals), and functions,
@@ -58,20 +59,22 @@ WORDS = {
     "_∷_": "◌∷◌",
     "_++_": "◌++◌",
 }
-SIGNATURE = re.compile(r"^(\s*)((?:abbrev |unfoldable |pub )*)([^\s(){}\[\],.;:\"]+)\s*:\s")
+SIGNATURE = re.compile(r"^(\s*)((?:abbrev |unfoldable |pub )*)([^\s(){}\[\],.;:\"]+)(?: \{[^}]*\})*\s*:\s")
 NAMED = re.compile(r"^(\s*)(?:pub )?(?:record|data|ruleset|constructor)\s+([^\s(){}\[\],.;:\"]+)")
+# What a file brings from a library keeps the library's spelling.
+LIBRARY = re.compile(r"^use (?:native|lib|mathlib|borrow|Prim|mir|denote|Rattle\.std)\b[^{\n]*\{([^}]*)\}", re.M)
 TOKEN = re.compile(r"[^\s(){}\[\],.;:\"`]+")
 
 
-def names_of(texts):
-    """The names that the lines of these texts state."""
+def names_of(texts, depth=4):
+    """The names that the lines of these texts state, up to that many blanks from the left."""
     found = set()
     for text in texts:
         for line in text.splitlines():
             if line.lstrip().startswith("--"):
                 continue
             m = SIGNATURE.match(line)
-            if m and len(m[1]) <= 4 and m[3] not in ("|", "let"):
+            if m and len(m[1]) <= depth and m[3] not in ("|", "let"):
                 found.add(m[3])
             m = NAMED.match(line)
             if m:
@@ -151,7 +154,10 @@ def main():
     antt = own(glob.glob("crates/*/specs/**/*.antt", recursive=True) + glob.glob("crates/*/proofs/**/*.antt", recursive=True))
     code = own(glob.glob("crates/*/src/**/*.rt", recursive=True))
     edits = own(glob.glob("crates/*/must-fail/*.edit") + glob.glob("compare/wrong/*.edit"))
-    here = names_of(read(p) for p in specs)
+    deep = "--deep" in sys.argv[1:]
+    here = names_of((read(p) for p in specs), 40 if deep else 4)
+    if deep:
+        LEMMAS.clear()
     table = {n: snake(n) for n in here if snake(n) != n}
     for n in sorted(table):
         # a lemma about a word has the word's name with dashes
@@ -180,8 +186,9 @@ def main():
         return 1
     for p in antt:
         text = read(p)
+        borrowed = {n for m in LIBRARY.findall(text) for n in tokens(m)}
         lemmas = {n: LEMMAS[n] for n in LEMMAS if p not in NOT_LEMMAS.get(n, ())}
-        turned = replace(text, table, r"(?<!\S)--\s", lemmas)
+        turned = replace(text, {n: table[n] for n in table if n not in borrowed}, r"(?<!\S)--\s", lemmas)
         if turned != text:
             with open(p, "w", encoding="utf-8") as f:
                 f.write(turned)
@@ -191,7 +198,7 @@ def main():
         if turned != text:
             with open(p, "w", encoding="utf-8") as f:
                 f.write(turned)
-    for p in edits:
+    for p in [] if deep else edits:
         text = read(p)
         turned = tight(replace(text, older, r"\Z."))
         if turned != text:

@@ -156,31 +156,31 @@ module _ (t : Settings) (bs : List ℕ) (s : Sides) (vs : List ℤ) (z : OldIsRe
       abbrev N : ℕ
       N = cells (old_header bs).sides
 
-      ls-long : length (old_labels_in (old_header bs)) ≡ N
-      ls-long = labels_long (length vs) t bs z.passes
+      ls_long : length (old_labels_in (old_header bs)) ≡ N
+      ls_long = labels_long (length vs) t bs z.passes
 
       exact : lengths_fit (old_posed (old_header bs) t) ≡ true
       unfolding old_posed old_cast_in
       exact = lengths_true (old_cast_in (old_header bs)) t (replicate N (pos 0)) (replicate (byte_need N) 0) (replicate (float_need N) +0) (replicate (word_need N) 0)
-          ls-long (values_long bs) (length-replicate N (pos 0)) (omega (arith, length-replicate {A = ℕ} (byte_need N) 0)) (omega (arith, length-replicate (float_need N) +0)) (omega (arith, length-replicate {A = ℕ} (word_need N) 0))
+          ls_long (values_long bs) (length-replicate N (pos 0)) (omega (arith, length-replicate {A = ℕ} (byte_need N) 0)) (omega (arith, length-replicate (float_need N) +0)) (omega (arith, length-replicate {A = ℕ} (word_need N) 0))
 
       roomy : lengths_fit (record { cast = old_cast_in (old_header bs); settings = t; pressures = take n ps; bytes = bytes; floats = floats; words = words }) ≡ true
       unfolding old_cast_in
-      roomy = lengths_true (old_cast_in (old_header bs)) t (take n ps) bytes floats words ls-long (values_long bs) (sym part_pressures ∙ count_is)
+      roomy = lengths_true (old_cast_in (old_header bs)) t (take n ps) bytes floats words ls_long (values_long bs) (sym part_pressures ∙ count_is)
           (byte_more N (length vs) (length bytes) few room.bytes_long) (float_more N (length vs) (length floats) few room.floats_long) (word_more N (length vs) (length words) few room.words_long)
 
-      same-cast : cast_of s labels (take n vs) ≡ old_cast_in (old_header bs)
+      same_cast : cast_of s labels (take n vs) ≡ old_cast_in (old_header bs)
       unfolding old_cast_in
-      same-cast = cast_eq s (old_header bs).sides labels (old_labels_in (old_header bs)) (take n vs) (old_values_in (old_header bs)) z.sides (f ∙ labels_is) (ap (λ k. take k vs) c ∙ z.values)
+      same_cast = cast_eq s (old_header bs).sides labels (old_labels_in (old_header bs)) (take n vs) (old_values_in (old_header bs)) z.sides (f ∙ labels_is) (ap (λ k. take k vs) c ∙ z.values)
 
-      same-print : shown (solving called) ≡ old_printed (length vs) t bs
+      same_print : shown (solving called) ≡ old_printed (length vs) t bs
       unfolding old_posed
-      same-print =
-          ap (λ k. shown (solving (record { cast = k; settings = t; pressures = take n ps; bytes = bytes; floats = floats; words = words }))) same-cast
+      same_print =
+          ap (λ k. shown (solving (record { cast = k; settings = t; pressures = take n ps; bytes = bytes; floats = floats; words = words }))) same_cast
           ∙ sym (rooms_alike (old_cast_in (old_header bs)) t (replicate N (pos 0)) (take n ps) (replicate (byte_need N) 0) bytes (replicate (float_need N) +0) floats (replicate (word_need N) 0) words exact roomy)
           ∙ sym (old_printed_passed (length vs) t bs z.passes)
 
-      pub solved-is : (u : List ℕ) (j : ℕ) → PutShort (print_room (length (take n ps))) (shown (solving called)) out 0 u j → PutShort (print_room (length vs)) (old_printed (length vs) t bs) out 0 u j
-      solved-is u j p = as_printed (length vs) t bs (take n ps) (shown (solving called)) out u j (sym same-print) (omega (arith, part_pressures, in_values)) p
+      pub solved_is : (u : List ℕ) (j : ℕ) → PutShort (print_room (length (take n ps))) (shown (solving called)) out 0 u j → PutShort (print_room (length vs)) (old_printed (length vs) t bs) out 0 u j
+      solved_is u j p = as_printed (length vs) t bs (take n ps) (shown (solving called)) out u j (sym same_print) (omega (arith, part_pressures, in_values)) p
 
-pub ruleset parts = (rules, read_fit, in_values, part_values, in_pressures, part_pressures, solved_room, solved-is)
+pub ruleset parts = (rules, read_fit, in_values, part_values, in_pressures, part_pressures, solved_room, solved_is)

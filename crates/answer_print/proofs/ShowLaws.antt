@@ -96,15 +96,15 @@ module _ (a : Answer) (w : List ℕ) (i : ℕ) (x : a.worst < 2 ^ 32) (y : a.wor
       pub value_room : k + 32 ≤ length v
       value_room = omega (arith, short_line (text "worst=") a.worst x, short_line (text "worstcell=") a.worstcell y, p.next, put_length p, q.next, put_length q)
 
-      pub worst-put : (d : List ℕ) (m : ℕ) (z : ℤ) → SFits w64 z → SFits w32 a.worstvalue → z ≡ to_z w32 (of_z w32 a.worstvalue)
+      pub worst_put : (d : List ℕ) (m : ℕ) (z : ℤ) → SFits w64 z → SFits w32 a.worstvalue → z ≡ to_z w32 (of_z w32 a.worstvalue)
           → PutShort 32 (line (text "worstvalue=") (whole (to_z w64 (of_z w64 z)))) v k d m → PutShort 70 (worst_lines a) w i d m
       unfolding worst_lines
-      worst-put d m z f g e r = record {
+      worst_put d m z f g e r = record {
         puts = put_then p (put_then q (rw (to_z-of_z f ∙ e ∙ to_z-of_z g) at r.puts));
         short = omega (arith, short_line (text "worst=") a.worst x, short_line (text "worstcell=") a.worstcell y, p.next, q.next, r.short);
       }
 
-pub ruleset worsts = (rules, worst_room, cell_room, value_room, worst-put)
+pub ruleset worsts = (rules, worst_room, cell_room, value_room, worst_put)
 
 abbrev first_three : Answer → List ℕ
 first_three a = three_lines (text "answer=") a.number (text "place=") a.place (text "rounds=") a.rounds
@@ -146,13 +146,13 @@ module _ (a : Answer) (w : List ℕ) (i : ℕ) (x : a.number < 2 ^ 32) (y : a.pl
       pub cast_fits : k + 37 ≤ length v
       cast_fits = omega (arith, short_three, p.next, put_length p, q.short, put_length q.puts)
 
-      pub answer-put : (d : List ℕ) (m : ℕ) → PutShort 37 (cast_lines a) v k d m → PutShort answer_room (answer_lines a) w i d m
-      answer-put d m r = record {
+      pub answer_put : (d : List ℕ) (m : ℕ) → PutShort 37 (cast_lines a) v k d m → PutShort answer_room (answer_lines a) w i d m
+      answer_put d m r = record {
         puts = rw (answer_parts a) (put_then p (put_then q.puts r.puts));
         short = omega (arith, short_three, p.next, q.short, r.short);
       }
 
-pub ruleset answers = (rules, first_room, worst_fits, cast_fits, answer-put)
+pub ruleset answers = (rules, first_room, worst_fits, cast_fits, answer_put)
 
 -- ---- i lines are put
 pub record Celled (ps : List ℤ) (old : List ℕ) (at i : ℕ) (new : List ℕ) (r : ℕ) : Type 0 where

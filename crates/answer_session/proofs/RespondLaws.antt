@@ -240,8 +240,8 @@ module _ (limit : ℕ) (bs : List ℕ) (s : Sides) (t : Settings) (vs : List ℤ
       pub part_fits : length bs < 2 ^ 64 → Fits w64 (start + n)
       part_fits h = record { fits = omega (arith, c, at.within) }
 
-      pub part-within : start + n ≤ length bs
-      part-within = omega (arith, c, at.within)
+      pub part_within : start + n ≤ length bs
+      part_within = omega (arith, c, at.within)
 
       labels_are : take (start + n - start) (drop start bs) ≡ labels_in (header bs)
       labels_are = let m : start + n - start ≡ cells s = omega (arith, c) in ap (λ k. take k (drop start bs)) m ∙ at.are
@@ -265,21 +265,21 @@ module _ (limit : ℕ) (bs : List ℕ) (s : Sides) (t : Settings) (vs : List ℤ
       roomy = lengths_true (cast_in (header bs)) (header bs).settings (take n ps) bytes floats words labels_long (values_long bs) (sym part_pressures ∙ count_is)
           (byte_more N limit (length bytes) cells_few room.bytes_long) (float_more N limit (length floats) cells_few room.floats_long) (word_more N limit (length words) cells_few room.words_long)
 
-      same-cast : cast_of s labels (take n vs) ≡ cast_in (header bs)
+      same_cast : cast_of s labels (take n vs) ≡ cast_in (header bs)
       unfolding cast_in
-      same-cast = cast_eq s (header bs).sides labels (labels_in (header bs)) (take n vs) (values_in (header bs)) z.sides labels_are (ap (λ k. take k vs) c ∙ z.values)
+      same_cast = cast_eq s (header bs).sides labels (labels_in (header bs)) (take n vs) (values_in (header bs)) z.sides labels_are (ap (λ k. take k vs) c ∙ z.values)
 
-      same-called : called ≡ record { cast = cast_in (header bs); settings = (header bs).settings; pressures = take n ps; bytes = bytes; floats = floats; words = words }
-      same-called = ap₂ (λ k x. record { cast = k; settings = x; pressures = take n ps; bytes = bytes; floats = floats; words = words }) same-cast z.settings
+      same_called : called ≡ record { cast = cast_in (header bs); settings = (header bs).settings; pressures = take n ps; bytes = bytes; floats = floats; words = words }
+      same_called = ap₂ (λ k x. record { cast = k; settings = x; pressures = take n ps; bytes = bytes; floats = floats; words = words }) same_cast z.settings
 
-      same-print : shown (solving called) ≡ printed limit bs
+      same_print : shown (solving called) ≡ printed limit bs
       unfolding program.asked
-      same-print =
-          ap (λ a. shown (solving a)) same-called
+      same_print =
+          ap (λ a. shown (solving a)) same_called
           ∙ sym (rooms_alike (cast_in (header bs)) (header bs).settings (replicate N (pos 0)) (take n ps) (replicate (byte_need N) 0) bytes (replicate (float_need N) +0) floats (replicate (word_need N) 0) words exact roomy)
           ∙ sym (printed_passed limit bs z.passes)
 
-      pub solved-is : (u : List ℕ) (j : ℕ) → PutShort (print_room (length (take n ps))) (shown (solving called)) out 0 u j → PutShort (print_room limit) (printed limit bs) out 0 u j
-      solved-is u j p = as_printed limit bs (take n ps) (shown (solving called)) out u j (sym same-print) (omega (arith, part_pressures, count_few)) p
+      pub solved_is : (u : List ℕ) (j : ℕ) → PutShort (print_room (length (take n ps))) (shown (solving called)) out 0 u j → PutShort (print_room limit) (printed limit bs) out 0 u j
+      solved_is u j p = as_printed limit bs (take n ps) (shown (solving called)) out u j (sym same_print) (omega (arith, part_pressures, count_few)) p
 
-pub ruleset parts = (rules, read_fit, in_values, part_values, in_pressures, part_pressures, solved_room, part_fits, part-within, solved-is)
+pub ruleset parts = (rules, read_fit, in_values, part_values, in_pressures, part_pressures, solved_room, part_fits, part_within, solved_is)

@@ -269,20 +269,20 @@ module _ (g : Sides) (ls e : List ℕ) (a : ℕ) (b : Bool) (h : a + length (cho
     left_more r' s' v = strung_more (entry_of g ls) (left_at b g ls) e a (cells g) left_room c r s u r' s' v
 
     module _ (n : ℕ) (q : n ≡ cells g) where
-      pub left-next : c < n → r + length (left_at b g ls c) ≤ length s
-      left-next l = strung_room (entry_of g ls) (left_at b g ls) e a (cells g) left_room c r s u (omega arith)
+      pub left_next : c < n → r + length (left_at b g ls c) ≤ length s
+      left_next l = strung_room (entry_of g ls) (left_at b g ls) e a (cells g) left_room c r s u (omega arith)
 
-      pub left-same : c ≤ n → length s ≡ length e
-      left-same l = strung_same (entry_of g ls) (left_at b g ls) e a (cells g) left_room c r s u (omega arith)
+      pub left_same : c ≤ n → length s ≡ length e
+      left_same l = strung_same (entry_of g ls) (left_at b g ls) e a (cells g) left_room c r s u (omega arith)
 
-      pub left-listed : c ≤ n → n ≤ c → Listed e a (left_of b g ls) (r - a) s
+      pub left_listed : c ≤ n → n ≤ c → Listed e a (left_of b g ls) (r - a) s
       unfolding left_of
-      left-listed k l =
+      left_listed k l =
           let o : c ≡ cells g = omega arith in
           let w : Placed (entry_of g ls) e a (strung (left_at b g ls) (cells g)) r s = rw o at u in
           listed (entry_of g ls) e a (chosen (left b g ls) (cells g)) r s (rw chosen_strung w)
 
-pub ruleset on_left = (rules, strung_none, left-next, left-same, left_more, left-listed)
+pub ruleset on_left = (rules, strung_none, left_next, left_same, left_more, left_listed)
 
 -- ---- all air: what is swept and what is left are no more than the air
 chosen_both : (p q : ℕ → Bool) → Within p q → (n : ℕ) → length (chosen p n) + length (chosen (λ c. q c && not (p c)) n) ≤ length (chosen q n)
@@ -323,8 +323,8 @@ module _ (b : Bool) (g : Sides) (ls : List ℕ) where
     rest_room k = omega (arith, u.count, both_le)
 
     module _ (q : ℕ) (t : List ℕ) (v : Listed s (a + r) (left_of b g ls) q t) where
-      pub air-count : r + q ≤ length e
-      air-count = omega (arith, u.count, v.count, left_long, both_le)
+      pub air_count : r + q ≤ length e
+      air_count = omega (arith, u.count, v.count, left_long, both_le)
 
       pub air_listed : LevelListed e a (list_of b g ls) (air_of b g ls) (record { swept = r; air = r + q }) t
       air_listed =

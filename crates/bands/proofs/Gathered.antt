@@ -48,9 +48,9 @@ module _ (l : Levels) (k a : ℕ) (bytes : List ℕ) (words : ℕ) (h : LevelAsk
     level_room = rw (cut_is, e) h.room
 
     module _ (count : ℕ) (r : Counts) (v s : List ℕ) where
-      pub level-lists : LevelListed v a (list_of (ltb (k + 1) count) g cut) (air_of (ltb (k + 1) count) g cut) r s → LevelListed v a (list_in l count bytes k) (air_in l count bytes k) r s
+      pub level_lists : LevelListed v a (list_of (ltb (k + 1) count) g cut) (air_of (ltb (k + 1) count) g cut) r s → LevelListed v a (list_in l count bytes k) (air_in l count bytes k) r s
       unfolding list_in air_in
-      level-lists p = rw (← e, ← cut_is) p
+      level_lists p = rw (← e, ← cut_is) p
 
 pub gather_fits : (l : Levels) (k a count : ℕ) (n : Counts) (bytes v s : List ℕ) → LevelAsked l k a bytes (length v)
     → LevelListed v a (list_in l count bytes k) (air_in l count bytes k) n s → Fits w64 (length v) → Fits w64 (a + n.air)
@@ -61,7 +61,7 @@ pub gather_is : (swept air v s : List ℕ) (k : ℕ) (n : Counts) (f : Gather) (
     → t ≡ list_set f.lists k f.next n.swept n.air → Gathered v swept air k f (record { lists = t; next = f.next + n.air }) s
 gather_is swept air v s k n f t p q = record { is = rw (q, p.count, p.whole); room = p.room }
 
-pub ruleset levelling = (rules, level_fit, level_end, level_room, level-lists, gather_fits, gather_is)
+pub ruleset levelling = (rules, level_fit, level_end, level_room, level_lists, gather_fits, gather_is)
 
 -- ---- what has been gathered of the first k levels
 abbrev pub gathered : Sides → List ℕ → ℕ → ℕ → Gather

@@ -177,68 +177,68 @@ module _ {l : Levels} {s : Lists} {count k : ℕ} {bytes words : List ℕ} {r : 
     level_end n = end_less (3 * cells g) (fields_from (base l) count k) (omega (arith, ap cells same_sides, own_fields)) n
 
     module _ {ls : List ℕ} (el : ls ≡ part_in l k bytes) where
-      same-labels : ls ≡ labels_of l bytes k
-      same-labels = el ∙ labels_here
+      same_labels : ls ≡ labels_of l bytes k
+      same_labels = el ∙ labels_here
 
-      labelled-here : length ls ≡ cells g
-      labelled-here = ap length same-labels ∙ labels_long ∙ ap cells (sym same_sides)
+      labelled_here : length ls ≡ cells g
+      labelled_here = ap length same_labels ∙ labels_long ∙ ap cells (sym same_sides)
 
-      pub labels-few : length ls ≤ 32768
-      labels-few = omega (arith, labelled-here, cells_most g clear_fit)
+      pub labels_few : length ls ≤ 32768
+      labels_few = omega (arith, labelled_here, cells_most g clear_fit)
 
-      pub level-asked : (d : List Float) → length d ≡ r → Level g ls d
-      level-asked d q = record {
+      pub level_asked : (d : List Float) → length d ≡ r → Level g ls d
+      level_asked d q = record {
         sides = clear_fit;
-        labelled = labelled-here;
+        labelled = labelled_here;
         roomy = omega (arith, ap cells same_sides, room_own);
       }
 
       pub all_air : {es : List ℕ} → es ≡ air_from s k words → AirList g ls es
       unfolding air_at
       all_air ea =
-          air_entries g ls (ltb (k + 1) count) clear_fit labelled-here
-          (ea ∙ z.prepared.air k z.below ∙ ap₂ (air_of (ltb (k + 1) count)) (sym same_sides) (sym same-labels))
+          air_entries g ls (ltb (k + 1) count) clear_fit labelled_here
+          (ea ∙ z.prepared.air k z.below ∙ ap₂ (air_of (ltb (k + 1) count)) (sym same_sides) (sym same_labels))
 
-      pub corrected-quiet : (e d : List Float) → Corrected l bytes count k e d → Quiet g ls (u_of (cells g) d)
-      corrected-quiet e d p =
+      pub corrected_quiet : (e d : List Float) → Corrected l bytes count k e d → Quiet g ls (u_of (cells g) d)
+      corrected_quiet e d p =
           let there : Quiet (sides_of l k) (labels_of l bytes k) (u_of (cells_of l k) d) = rw p.u (quiet_corrected _ _) in
-          rw (same_sides, same-labels) there
+          rw (same_sides, same_labels) there
 
       module _ {cs : List ℕ} (ec : cs ≡ list_from s k words) where
-        list-here : cs ≡ list_at (base l) (base_labels l bytes) count k
-        list-here = ec ∙ z.prepared.lists k z.below
+        list_here : cs ≡ list_at (base l) (base_labels l bytes) count k
+        list_here = ec ∙ z.prepared.lists k z.below
 
-        pub band-listed : k + 1 < count → cs ≡ entries_where g ls (in_band g ls)
+        pub band_listed : k + 1 < count → cs ≡ entries_where g ls (in_band g ls)
         unfolding list_at list_of smoothed
-        band-listed h =
-            list-here ∙ ap (λ b. list_of b (sides_of l k) (labels_of l bytes k)) (lt-ltb (k + 1) count h)
-            ∙ ap₂ (λ m c. entries_where m c (in_band m c)) (sym same_sides) (sym same-labels)
+        band_listed h =
+            list_here ∙ ap (λ b. list_of b (sides_of l k) (labels_of l bytes k)) (lt-ltb (k + 1) count h)
+            ∙ ap₂ (λ m c. entries_where m c (in_band m c)) (sym same_sides) (sym same_labels)
 
         pub air_listed : count ≤ k + 1 → cs ≡ entries_where g ls (is_air ls)
         unfolding list_at list_of smoothed
         air_listed h =
-            list-here ∙ ap (λ b. list_of b (sides_of l k) (labels_of l bytes k)) (le-ltb (k + 1) count h)
-            ∙ ap₂ (λ m c. entries_where m c (is_air c)) (sym same_sides) (sym same-labels)
+            list_here ∙ ap (λ b. list_of b (sides_of l k) (labels_of l bytes k)) (le-ltb (k + 1) count h)
+            ∙ ap₂ (λ m c. entries_where m c (is_air c)) (sym same_sides) (sym same_labels)
 
         -- the coarsest level
-        pub cycle-last : (e d x : List Float) → length e ≡ r → count ≤ k + 1 → d ≡ zeros g ++ drop (cells g) e
+        pub cycle_last : (e d x : List Float) → length e ≡ r → count ≤ k + 1 → d ≡ zeros g ++ drop (cells g) e
             → Put (cells g) (3 * cells g) (coarsest g ls (b_of (cells g) d)) d x → Cycled l bytes count k e x
         unfolding cycle
-        cycle-last e d x q h p c =
+        cycle_last e d x q h p c =
             let none : count - 1 - k ≡ 0 = omega (arith, z.below) in
             let first = clear_put g ls e d (omega (arith, ap cells same_sides, room_own)) p in
             let here : Put (cells g) (3 * cells g) (coarsest g ls (b_of (cells g) e)) e x = put_then (cells g) (3 * cells g) (zeros g) (λ b u. coarsest g ls b) first c in
-            let there : Put (cells_of l k) (3 * cells_of l k) (coarsest (sides_of l k) (labels_of l bytes k) (b_of (cells_of l k) e)) e x = rw (same_sides, same-labels) at here in
+            let there : Put (cells_of l k) (3 * cells_of l k) (coarsest (sides_of l k) (labels_of l bytes k) (b_of (cells_of l k) e)) e x = rw (same_sides, same_labels) at here in
             put_later (cells_of l k) (3 * cells_of l k) (fields_from (base l) count k) (cycle_from l bytes count k (b_of (cells_of l k) e)) e x
             (omega (arith, fields_next (base l) count k z.below))
             (put_as (cells_of l k) (3 * cells_of l k) (coarsest (sides_of l k) (labels_of l bytes k) (b_of (cells_of l k) e)) (cycle_from l bytes count k (b_of (cells_of l k) e))
             (ap (λ j. cycle k j (sides_of l k) (labels_of l bytes k) (b_of (cells_of l k) e)) (sym none)) there)
 
         -- any other
-        cycle-next : (b : List Float) → k + 1 < count
+        cycle_next : (b : List Float) → k + 1 < count
             → rising k (sides_of l k) (labels_of l bytes k) b (correction l bytes count k b (downstroke k (sides_of l k) (labels_of l bytes k) b)) ≡ cycle_from l bytes count k b
         unfolding cycle rising upstroke
-        cycle-next b h =
+        cycle_next b h =
             let some : suc (count - 1 - (k + 1)) ≡ count - 1 - k = omega arith in
             let G = sides_of l k in
             let L = labels_of l bytes k in
@@ -248,10 +248,10 @@ module _ {l : Levels} {s : Lists} {count k : ℕ} {bytes words : List ℕ} {r : 
             ∙ ap₂ (λ m c. rising k G L b (corrected G L u (cycle (suc k) (count - 1 - (k + 1)) m c w))) (sides_next (base l) k) (labels_next (base l) (base_labels l bytes) k)
             ∙ ap (λ j. cycle k j G L b) some
 
-        pub cycle-more : (e d p q x : List Float) → length e ≡ r → k + 1 < count → d ≡ zeros g ++ drop (cells g) e
+        pub cycle_more : (e d p q x : List Float) → length e ≡ r → k + 1 < count → d ≡ zeros g ++ drop (cells g) e
             → Put (cells g) (3 * cells g) (downstroke k g ls (b_of (cells g) d)) d p → Corrected l bytes count k p q
             → Put (cells g) (3 * cells g) (rising k g ls (b_of (cells g) q) (u_of (cells g) q)) q x → Cycled l bytes count k e x
-        cycle-more e d p q x a h c₁ c₂ c₃ c₄ =
+        cycle_more e d p q x a h c₁ c₂ c₃ c₄ =
             let n = cells_of l k in
             let m = fields_from (base l) count k in
             let G = sides_of l k in
@@ -259,10 +259,10 @@ module _ {l : Levels} {s : Lists} {count k : ℕ} {bytes words : List ℕ} {r : 
             let all : 3 * cells_of l k ≤ fields_from (base l) count k = omega (arith, fields_next (base l) count k z.below) in
             let first = clear_put g ls e d (omega (arith, ap cells same_sides, room_own)) c₁ in
             let here : Put (cells g) (3 * cells g) (downstroke k g ls (b_of (cells g) e)) e p = put_then (cells g) (3 * cells g) (zeros g) (λ b u. downstroke k g ls b) first c₂ in
-            let there : Put (cells_of l k) (3 * cells_of l k) (downstroke k (sides_of l k) (labels_of l bytes k) (b_of (cells_of l k) e)) e p = rw (same_sides, same-labels) at here in
+            let there : Put (cells_of l k) (3 * cells_of l k) (downstroke k (sides_of l k) (labels_of l bytes k) (b_of (cells_of l k) e)) e p = rw (same_sides, same_labels) at here in
             let last : Put (cells_of l k) (3 * cells_of l k) (rising k (sides_of l k) (labels_of l bytes k) (b_of (cells_of l k) q) (u_of (cells_of l k) q)) q x =
-            rw (same_sides, same-labels) at c₄ in
-            put_as n m _ _ (cycle-next (b_of n e) h)
+            rw (same_sides, same_labels) at c₄ in
+            put_as n m _ _ (cycle_next (b_of n e) h)
             (put_then n m _ (λ b u. rising k G L b u)
             (put_then n m _ (λ b u. correction l bytes count k b u) (put_later n (3 * n) m _ e p all there) c₃)
             (put_later n (3 * n) m _ q x all last))
@@ -334,16 +334,16 @@ module _ {l : Levels} {s : Lists} {count k : ℕ} {bytes words : List ℕ} {r : 
     h_is = same_sides (next_ready z more) eh
 
     ls_is : ls ≡ labels_of l bytes k
-    ls_is = same-labels z eg el
+    ls_is = same_labels z eg el
 
     lc_is : lc ≡ labels_of l bytes (k + 1)
-    lc_is = same-labels (next_ready z more) eh ec
+    lc_is = same_labels (next_ready z more) eh ec
 
     pub two_levels : TwoLevels g h ls lc
     two_levels = record {
       fits = clear_fit z eg;
       next = h_is ∙ sides_next (base l) k ∙ ap halved (sym g_is);
-      all = labelled-here z eg el;
+      all = labelled_here z eg el;
       labels = lc_is ∙ labels_next (base l) (base_labels l bytes) k ∙ ap₂ coarse (sym g_is) (sym ls_is);
     }
 
@@ -402,4 +402,4 @@ module _ {l : Levels} {s : Lists} {count k : ℕ} {bytes words : List ℕ} {r : 
         (correct_home (sides_of l k) (sides_of l (k + 1)) (labels_of l bytes k) (fields_from (base l) count (k + 1)) (cycle_from l bytes count (k + 1)) e d c x
         (omega (arith, fields_two z more, z.roomy)) (omega (arith, fields_next (base l) count (k + 1) more)) low' p' o'')
 
-pub ruleset cycles = (rules, labels_asked, list_asked, air_asked, clear_fit, clear_room, labels_asked_next, two_levels, two_rooms, lent_long, cycle-last)
+pub ruleset cycles = (rules, labels_asked, list_asked, air_asked, clear_fit, clear_room, labels_asked_next, two_levels, two_rooms, lent_long, cycle_last)

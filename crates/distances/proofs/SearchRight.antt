@@ -20,7 +20,7 @@ use Rattle.laws.proofs.Bools.{split, is_true, is_false}
 use Rattle.laws.proofs.Naturals.{le_or_lt}
 use Rattle.method.specs.declared.Found.{Found}
 use Rattle.method.specs.declared.Found.TheVariants.{Nowhere, At}
-use Rattle.theory.proofs.Reach.{found-cases, same_steps, never}
+use Rattle.theory.proofs.Reach.{found_cases, same_steps, never}
 use Rattle.distances.specs.Search.{Queue, queue, mark, entry, put, reach, reach_all, turn, start, cleared, started, mark_of, Safe}
 use Rattle.distances.proofs.SearchSafe.{Put, put_is, put_safe, place, reach_put, reach_keep}
 use Rattle.distances.proofs.SearchCode.{cleared_zero, cleared_safe}
@@ -98,7 +98,7 @@ module _ (n : ℕ) (air opening : ℕ → Bool) (near : ℕ → List ℕ) (δ : 
     put_good = record {
       safe = s;
       marked = λ k b. which k b (λ o. omega (arith, old k o, g.marked k o)) (λ e. omega (arith, at_tail k e));
-      queued = λ c lc b. queued-at c lc b (ℕ_discrete c j);
+      queued = λ c lc b. queued_at c lc b (ℕ_discrete c j);
       sorted = λ k i ki b. which i b
           (λ o. omega (arith, old i o, old k (omega arith), g.sorted k i ki o))
           (λ e. which k (omega arith) (λ o. omega (arith, at_tail i e, old k o, top k o)) (λ f. omega (arith, at_tail i e, at_tail k f)));
@@ -107,16 +107,16 @@ module _ (n : ℕ) (air opening : ℕ → Bool) (near : ℕ → List ℕ) (δ : 
           (λ he. which k b (λ o. omega (arith, at_tail h he, old k o, top k o)) (λ e. omega (arith, at_tail h he, at_tail k e)));
       done = λ k i kh kb mem a. let o : k < q.tail = omega arith in
           later_marked n q p (later_put n (m + 1) j q p u z) i (D.air_cell i a) (g.done k i kh o (subst (λ x. Memᴰ i (near x)) (u.entry_else k o) mem) a);
-      right = λ c d lc e. right-at c d lc e (ℕ_discrete c j);
+      right = λ c d lc e. right_at c d lc e (ℕ_discrete c j);
     }
       where
-        queued-at : (c : ℕ) → c < n → 1 ≤ mark p c → Dec (c ≡ j) → (k : ℕ) × (k < p.tail) × (entry n p k ≡ c)
-        queued-at c lc b (yes e) = (q.tail, omega (arith, u.tail_is), u.entry_here ∙ sym e)
-        queued-at c lc b (no e) = let r = g.queued c lc (omega (arith, u.mark_else c lc e)) in (r.0, omega (arith, u.tail_is, r.1), u.entry_else r.0 r.1 ∙ r.2)
+        queued_at : (c : ℕ) → c < n → 1 ≤ mark p c → Dec (c ≡ j) → (k : ℕ) × (k < p.tail) × (entry n p k ≡ c)
+        queued_at c lc b (yes e) = (q.tail, omega (arith, u.tail_is), u.entry_here ∙ sym e)
+        queued_at c lc b (no e) = let r = g.queued c lc (omega (arith, u.mark_else c lc e)) in (r.0, omega (arith, u.tail_is, r.1), u.entry_else r.0 r.1 ∙ r.2)
 
-        right-at : (c d : ℕ) → c < n → mark p c ≡ suc d → Dec (c ≡ j) → δ c ≡ At d
-        right-at c d lc e (yes f) = ap δ f ∙ dj ∙ ap At (omega (arith, ap (mark p) f, u.mark_here))
-        right-at c d lc e (no f) = g.right c d lc (sym (u.mark_else c lc f) ∙ e)
+        right_at : (c d : ℕ) → c < n → mark p c ≡ suc d → Dec (c ≡ j) → δ c ≡ At d
+        right_at c d lc e (yes f) = ap δ f ∙ dj ∙ ap At (omega (arith, ap (mark p) f, u.mark_here))
+        right_at c d lc e (no f) = g.right c d lc (sym (u.mark_else c lc f) ∙ e)
 
   -- ---- what is nearer than a bound is marked, where all with a mark below the bound are done
   reached : (h b : ℕ) (q : Queue) → Good h q → Opened q → ((k : ℕ) → k < q.tail → mark q (entry n q k) < b → k < h) → (e x : ℕ) → e < b → δ x ≡ At e → 1 ≤ mark q x
@@ -315,7 +315,7 @@ module _ (n : ℕ) (air opening : ℕ → Bool) (near : ℕ → List ℕ) (δ : 
   seed_put i q p s l a z = record {
     good = put_good 0 0 i p r s.good (put_safe n p s.good.safe i l z 1 (omega arith) (omega arith)) u l z (D.at_opening i l a) (omega arith)
         (λ k b. s.ones (entry n p k) (s.good.safe.inside k b)) (λ b. omega arith);
-    ones = λ c lc. ones-at c lc (ℕ_discrete c i);
+    ones = λ c lc. ones_at c lc (ℕ_discrete c i);
     opens = λ c b lc o. ⊎_elim (λ e. omega (arith, ap (mark r) e, u.mark_here)) (λ k. later_marked n p r lat c lc (s.opens c k lc o)) (eq-or-lt_of_le (le_of_suc-le-suc b));
     later = later_then n q p r s.later lat;
   }
@@ -329,9 +329,9 @@ module _ (n : ℕ) (air opening : ℕ → Bool) (near : ℕ → List ℕ) (δ : 
       lat : Later n p r
       lat = later_put n 1 i p r u z
 
-      ones-at : (c : ℕ) → c < n → Dec (c ≡ i) → mark r c ≤ 1
-      ones-at c lc (yes e) = omega (arith, ap (mark r) e, u.mark_here)
-      ones-at c lc (no e) = omega (arith, u.mark_else c lc e, s.ones c lc)
+      ones_at : (c : ℕ) → c < n → Dec (c ≡ i) → mark r c ≤ 1
+      ones_at c lc (yes e) = omega (arith, ap (mark r) e, u.mark_here)
+      ones_at c lc (no e) = omega (arith, u.mark_else c lc e, s.ones c lc)
 
   seed_keep : (i : ℕ) (q p : Queue) → Seeded i q p → (T (opening i) → 1 ≤ mark p i) → Seeded (suc i) q p
   seed_keep i q p s f = record {
@@ -388,7 +388,7 @@ module _ (n : ℕ) (air opening : ℕ → Bool) (near : ℕ → List ℕ) (δ : 
     -- THE CLAIM: the marks end as the distances say
     pub marks_right : (c : ℕ) → c < n → mark (up (turn n air near) n (started n opening room)) c ≡ mark_of (δ c)
     unfolding mark_of
-    marks_right c l = found-cases (δ c) (λ d e. at d e (ℕ_discrete (mark end c) 0)) (λ e. nowhere e (ℕ_discrete (mark end c) 0))
+    marks_right c l = found_cases (δ c) (λ d e. at d e (ℕ_discrete (mark end c) 0)) (λ e. nowhere e (ℕ_discrete (mark end c) 0))
       where
         end : Queue
         end = up (turn n air near) n (started n opening room)

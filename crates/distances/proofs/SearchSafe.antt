@@ -72,7 +72,7 @@ module _ (n : ℕ) (q : Queue) (s : Safe n q) (j : ℕ) (l : j < n) (z : mark q 
             (λ e. omega (arith, ap (λ x. entry n (put n v j q) x) e, p.entry_here, l))
             (λ b. omega (arith, p.entry_else k b, s.inside k b))
             (eq-or-lt_of_le (le_of_suc-le-suc (rw add-one at b)));
-        low = λ c k. low-at p c k (ℕ_discrete c j);
+        low = λ c k. low_at p c k (ℕ_discrete c j);
         free = omega (
           arith,
           s.free,
@@ -82,9 +82,9 @@ module _ (n : ℕ) (q : Queue) (s : Safe n q) (j : ℕ) (l : j < n) (z : mark q 
         );
       }
     where
-      low-at : Put n v j q (put n v j q) → (c : ℕ) → c < n → Dec (c ≡ j) → mark (put n v j q) c ≤ q.tail + 1
-      low-at p c k (yes e) = rw e (omega (arith, p.mark_here))
-      low-at p c k (no e) = omega (arith, p.mark_else c k e, s.low c k)
+      low_at : Put n v j q (put n v j q) → (c : ℕ) → c < n → Dec (c ≡ j) → mark (put n v j q) c ≤ q.tail + 1
+      low_at p c k (yes e) = rw e (omega (arith, p.mark_here))
+      low_at p c k (no e) = omega (arith, p.mark_else c k e, s.low c k)
 
 -- ---- so a cell that is reached keeps the queue safe
 cond_cases : {A : Type 0} (P : A → Type 0) (b : Bool) {x y : A} → (T b → P x) → (b ≡ false → P y) → P (cond b x y)

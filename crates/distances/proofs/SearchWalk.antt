@@ -22,7 +22,7 @@ use Rattle.method.specs.Walks.{is_at, nearer, walks, walk, steps_of, depth, seal
 use Rattle.theory.specs.Walks.{Walk, last, step}
 use Rattle.theory.specs.Sides.{Fit}
 use Rattle.theory.proofs.Neighbours.{beside_sym'}
-use Rattle.theory.proofs.Reach.{air_test, test_air, opening_test, test_opening, walk_air, in_box_lem, found-cases, never, same_steps, known, later, least_walk, no_walk}
+use Rattle.theory.proofs.Reach.{air_test, test_air, opening_test, test_opening, walk_air, in_box_lem, found_cases, never, same_steps, known, later, least_walk, no_walk}
 use Rattle.grid.proofs.Steps.{cells_most}
 use Rattle.distances.specs.declared.Walked.{Walked}
 use Rattle.distances.specs.Search.{searched, mark_of, deeper, lost, Roomy, Measured}
@@ -96,7 +96,7 @@ module _ (s : Sides) (ls : List ℕ) where
 
     -- a cell with a walk is known, by no more steps
     walked : (c k : ℕ) → Walk s ls c k → (e : ℕ) × (e ≤ k) × (δ c ≡ At e)
-    walked c k w = found-cases (δ c)
+    walked c k w = found_cases (δ c)
         (λ e q. (e, (least_walk s ls sized c e (walk_air w) q).1 k w, q))
         (λ q. absurd (no_walk s ls sized c (walk_air w) q k w))
 

@@ -92,18 +92,18 @@ module _ {A : Type 0} where
       unfolding written
       grouped = sym (append_assoc (take a e) l (drop (a + length l) e))
 
-      pub take-written : take (a + length l) (written e a l) ≡ take a e ++ l
-      take-written = rw grouped (take_at (take a e ++ l) (drop (a + length l) e) (a + length l) head_long)
+      pub take_written : take (a + length l) (written e a l) ≡ take a e ++ l
+      take_written = rw grouped (take_at (take a e ++ l) (drop (a + length l) e) (a + length l) head_long)
 
-      pub drop-written : (k : ℕ) → drop (a + length l + k) (written e a l) ≡ drop (a + length l + k) e
-      drop-written k = rw (grouped, ← head_long) (drop-append-add (take a e ++ l) (drop (length (take a e ++ l)) e) k ∙ drop-drop k (length (take a e ++ l)) e)
+      pub drop_written : (k : ℕ) → drop (a + length l + k) (written e a l) ≡ drop (a + length l + k) e
+      drop_written k = rw (grouped, ← head_long) (drop-append-add (take a e ++ l) (drop (length (take a e ++ l)) e) k ∙ drop-drop k (length (take a e ++ l)) e)
 
       -- what is written next
       pub written_on : (m : List A) → written (written e a l) (a + length l) m ≡ written e a (l ++ m)
       unfolding written
       written_on m =
           let k : a + length l + length m ≡ a + length (l ++ m) = omega (arith, length-append l m) in
-          ap₂ (λ x y. x ++ (m ++ y)) take-written (drop-written (length m))
+          ap₂ (λ x y. x ++ (m ++ y)) take_written (drop_written (length m))
           ∙ append_assoc (take a e) l (m ++ drop (a + length l + length m) e)
           ∙ ap (λ x. take a e ++ x) (sym (append_assoc l m (drop (a + length l + length m) e))
           ∙ ap (λ k. (l ++ m) ++ drop k e) k)

@@ -84,8 +84,8 @@ module _ (g : Sides) (count : ℕ) (ls old words : List ℕ) (r : ℕ) (z : Aske
     asked_lists = lists_asked l count ls old bytes asked_labels eb (length words) kb air_room
 
     module _ (s : Lists) (listed : List ℕ) (kw : length listed ≡ length words) (p : AllListed (base l) (base_labels l bytes) count words s listed) where
-      pub run-ready : (d : List Float) → length d ≡ r → Ready l s count 0 bytes listed (length d)
-      run-ready d q = rw q (ready_first l s count bytes listed r
+      pub run_ready : (d : List Float) → length d ≡ r → Ready l s count 0 bytes listed (length d)
+      run_ready d q = rw q (ready_first l s count bytes listed r
           (prepared_from l count ls old bytes words listed s asked_labels eb kb air_room kw p)
           (rw (base_is g l el) (omega (arith, fields_most g count z.fit z.most, z.room_enough))))
 

@@ -135,10 +135,10 @@ module _ (g : Sides) (ls : List ℕ) (t : Settings) (sets : ℕ) (vs ps rs : Lis
 
     module _ (bp : List ℕ) (fp : List Float) (wp : List ℕ) (eb : length bp ≡ length (mid_of 0 (2 * length ls + 16 - 0) bytes))
         (ef : length fp ≡ length (mid_of 0 (8 * length ls + 64 - 0) floats)) (ew : length wp ≡ length (mid_of 0 (2 * length ls - 0) words)) where
-      pub clear-asked : (length ls ≤ 32768) × ((byte_need (length ls) ≤ length (put_mid 0 (2 * length ls + 16 - 0) bytes bp))
+      pub clear_asked : (length ls ≤ 32768) × ((byte_need (length ls) ≤ length (put_mid 0 (2 * length ls + 16 - 0) bytes bp))
           × ((float_need (length ls) ≤ length (put_mid 0 (8 * length ls + 64 - 0) floats fp)) × (word_need (length ls) ≤ length (put_mid 0 (2 * length ls - 0) words wp))))
       unfolding byte_need float_need word_need
-      clear-asked = (
+      clear_asked = (
         z.few,
         (
           omega (arith, same_len_mid 0 (2 * length ls + 16 - 0) bytes bp eb, z.bytes_room),
@@ -146,11 +146,11 @@ module _ (g : Sides) (ls : List ℕ) (t : Settings) (sets : ℕ) (vs ps rs : Lis
         ),
       )
 
-      pub solved-is : (r : Answer) (qs ss : List ℤ) (bs : List ℕ) (fs : List Float) (ws : List ℕ) → ManyWorked g ls vs t sets ps rs r qs ss
+      pub solved_is : (r : Answer) (qs ss : List ℤ) (bs : List ℕ) (fs : List Float) (ws : List ℕ) → ManyWorked g ls vs t sets ps rs r qs ss
           → bs ≡ cleared (byte_need (length ls)) 0 (put_mid 0 (2 * length ls + 16 - 0) bytes bp) → fs ≡ cleared (float_need (length ls)) +0 (put_mid 0 (8 * length ls + 64 - 0) floats fp)
           → ws ≡ cleared (word_need (length ls)) 0 (put_mid 0 (2 * length ls - 0) words wp) → SolveManyOf a r qs ss bs fs ws
       unfolding many_handed_back
-      solved-is r qs ss bs fs ws w b f o =
+      solved_is r qs ss bs fs ws w b f o =
           let same : SameCall a g ls vs t sets ps rs =
           record { sides = refl; labels = refl; values = refl; settings = refl; sets = refl; pressures = refl; answers = refl; roomy = z.fits } in
           let e : solving_many a ≡ many_handed_back a r qs ss = past_six a z.passes ∙ w.is a same in

@@ -51,9 +51,9 @@ module _ (n sets labels : ℕ) (of : Lengths) where
       pressures_wrong h = rw (eq-eqb labels n la, eq-eqb of.values (sets * n) (va ∙ e), ne_eqb of.pressures (sets * n) (λ q. h (q ∙ sym e)))
 
       module _ (pa : of.pressures ≡ all) (fs : ℕ) (f : fs ≡ sets * 8) where
-        pub answers-wrong : (of.answers ≡ fs → ⊥) → false ≡ lengths_by n sets labels of
+        pub answers_wrong : (of.answers ≡ fs → ⊥) → false ≡ lengths_by n sets labels of
         unfolding lengths_by
-        answers-wrong h = rw (
+        answers_wrong h = rw (
           eq-eqb labels n la,
           eq-eqb of.values (sets * n) (va ∙ e),
           eq-eqb of.pressures (sets * n) (pa ∙ e),
@@ -61,9 +61,9 @@ module _ (n sets labels : ℕ) (of : Lengths) where
         )
 
         module _ (aa : of.answers ≡ fs) where
-          rooms-left : lengths_by n sets labels of ≡ (leb (byte_need n) of.bytes && (leb (float_need n) of.floats && leb (word_need n) of.words))
+          rooms_left : lengths_by n sets labels of ≡ (leb (byte_need n) of.bytes && (leb (float_need n) of.floats && leb (word_need n) of.words))
           unfolding lengths_by
-          rooms-left = rw (
+          rooms_left = rw (
             eq-eqb labels n la,
             eq-eqb of.values (sets * n) (va ∙ e),
             eq-eqb of.pressures (sets * n) (pa ∙ e),
@@ -72,17 +72,17 @@ module _ (n sets labels : ℕ) (of : Lengths) where
 
           pub bytes_short : of.bytes < 2 * n + 16 → false ≡ lengths_by n sets labels of
           unfolding byte_need
-          bytes_short h = rw (rooms-left, lt-leb (2 * n + 16) of.bytes h)
+          bytes_short h = rw (rooms_left, lt-leb (2 * n + 16) of.bytes h)
 
-          pub floats-short : 2 * n + 16 ≤ of.bytes → of.floats < 8 * n + 64 → false ≡ lengths_by n sets labels of
+          pub floats_short : 2 * n + 16 ≤ of.bytes → of.floats < 8 * n + 64 → false ≡ lengths_by n sets labels of
           unfolding byte_need float_need
-          floats-short d h = rw (rooms-left, le-leb (2 * n + 16) of.bytes d, lt-leb (8 * n + 64) of.floats h)
+          floats_short d h = rw (rooms_left, le-leb (2 * n + 16) of.bytes d, lt-leb (8 * n + 64) of.floats h)
 
           pub words_last : 2 * n + 16 ≤ of.bytes → 8 * n + 64 ≤ of.floats → leb (2 * n) of.words ≡ lengths_by n sets labels of
           unfolding byte_need float_need word_need
-          words_last d g = rw (rooms-left, le-leb (2 * n + 16) of.bytes d, le-leb (8 * n + 64) of.floats g)
+          words_last d g = rw (rooms_left, le-leb (2 * n + 16) of.bytes d, le-leb (8 * n + 64) of.floats g)
 
-pub ruleset many_lengths = (rules, labels_wrong, values_wrong, pressures_wrong, answers-wrong, bytes_short, floats-short, words_last)
+pub ruleset many_lengths = (rules, labels_wrong, values_wrong, pressures_wrong, answers_wrong, bytes_short, floats_short, words_last)
 
 -- ---- checks 3, 4 and 6
 pub sets_low : (k : ℕ) → k < 1 → leb 1 k ≡ sets_fit k

@@ -64,25 +64,25 @@ module _ (l : List ℕ) (r : LineRead) (h : LineOf size_part l r) where
       on' : read_lines 1 old_parts l ≡ more x (more y (read_lines 3 (last_part ∷ unit_part ∷ []) o))
       on' = on ∙ ap (more x) (read_good middle_part _ 2 m y o (line_good middle_part m o s y j g d p))
 
-      pub size-third : t ≡ NotOfForm → SizeOf l NoneSize
+      pub size_third : t ≡ NotOfForm → SizeOf l NoneSize
       unfolding more
-      size-third u = no_size l 3 (on' ∙ ap (λ ls. more x (more y ls)) (read_bad last_part _ 3 o (line_bad last_part o t q u))) (omega arith)
+      size_third u = no_size l 3 (on' ∙ ap (λ ls. more x (more y ls)) (read_bad last_part _ 3 o (line_bad last_part o t q u))) (omega arith)
 
       total : (z n : ℕ) → t ≡ Value z n → i + j + n ≤ length l
       total z n u = omega (arith, line_within size_part l r x i h e, line_within middle_part m s y j g d, line_within last_part o t z n q u, ap length f, ap length p, length-drop i l, length-drop j m)
 
-      pub size-all : (z n : ℕ) → t ≡ Value z n → SizeOf l (NamedSize (record { nx = x; ny = y; nz = z }) (i + j + n))
+      pub size_all : (z n : ℕ) → t ≡ Value z n → SizeOf l (NamedSize (record { nx = x; ny = y; nz = z }) (i + j + n))
       unfolding SizeOf with_size
-      size-all z n u = record {
+      size_all z n u = record {
         is = on' ∙ ap (λ ls. more x (more y ls)) (read_good last_part (unit_part ∷ []) 3 o z (drop n o) (line_good last_part o (drop n o) t z n q u refl))
             ∙ ap (λ b. more x (more y (more z (read_lines 4 (unit_part ∷ []) b)))) (ap (drop n) (p ∙ ap (drop j) f ∙ drop-drop j i l) ∙ drop-drop n (i + j) l);
         within = total z n u;
       }
 
-      pub three-fits : (z n : ℕ) → t ≡ Value z n → length l < 2 ^ 64 → Fits w64 (i + j + n)
-      three-fits z n u v = record { fits = omega (arith, total z n u) }
+      pub three_fits : (z n : ℕ) → t ≡ Value z n → length l < 2 ^ 64 → Fits w64 (i + j + n)
+      three_fits z n u v = record { fits = omega (arith, total z n u) }
 
-pub ruleset sizes = (rules, line_within, size_first, size_second, size-third, size-all, two_fits, three-fits)
+pub ruleset sizes = (rules, line_within, size_first, size_second, size_third, size_all, two_fits, three_fits)
 
 -- ---- the unit
 pub header_first : (l : List ℕ) (r : SizeRead) → SizeOf l r → r ≡ NoneSize → OldHeaderOf l (Wrong 1)

@@ -52,14 +52,14 @@ module _ (s : Sides) (w : List ℕ) (i : ℕ) where
       pub size_second : j + length (middle_part s.ny) ≤ length u
       size_second = second_room (size_part s.nx) (middle_part s.ny) (last_part s.nz) w i size_room u j p
 
-      pub size-third : (v : List ℕ) (k : ℕ) → Put (middle_part s.ny) u j v k → k + length (last_part s.nz) ≤ length v
-      size-third v k q = third_room (size_part s.nx) (middle_part s.ny) (last_part s.nz) w i size_room u j p v k q
+      pub size_third : (v : List ℕ) (k : ℕ) → Put (middle_part s.ny) u j v k → k + length (last_part s.nz) ≤ length v
+      size_third v k q = third_room (size_part s.nx) (middle_part s.ny) (last_part s.nz) w i size_room u j p v k q
 
   pub size_put : (u v d : List ℕ) (j k m : ℕ) → Put (size_part s.nx) w i u j → Put (middle_part s.ny) u j v k → Put (last_part s.nz) v k d m
       → Put (line (text "size=") (size_word s)) w i d m
   size_put u v d j k m p q g = rw (size_parts s) (all_put _ _ _ w u v d i j k m p q g)
 
-pub ruleset sizes = (rules, size_first, size_second, size-third, size_put)
+pub ruleset sizes = (rules, size_first, size_second, size_third, size_put)
 
 -- ---- both lines
 module _ (s : Sides) (n : ℕ) (w : List ℕ) (i : ℕ) where

@@ -64,24 +64,24 @@ module _ (s : Sides) (u left room : ℕ) (t : Settings) (a : Bool) (e : a ≡ si
       long : eqb left (3 * cells s) ≡ true
       long = eq-eqb left (3 * cells s) (f ∙ ap (λ k. 3 * k) c)
 
-      pub sizes-2 : room < n → Refusedᴿ 2 0 ≡ old_size_ruling s u left room t
+      pub sizes_2 : room < n → Refusedᴿ 2 0 ≡ old_size_ruling s u left room t
       unfolding old_size_ruling ruling_by first_of fault
-      sizes-2 g = rw (fault_no (sides_fit s) (sym e ∙ d), fault_no (eqb left (3 * cells s)) long, lt-ltb room (cells s) (omega arith))
+      sizes_2 g = rw (fault_no (sides_fit s) (sym e ∙ d), fault_no (eqb left (3 * cells s)) long, lt-ltb room (cells s) (omega arith))
 
       module _ (g : n ≤ room) (b : Bool) (h : b ≡ (unit_fits u && settings_fit t)) where
-        pub sizes-3 : b ≡ false → Refusedᴿ 3 0 ≡ old_size_ruling s u left room t
+        pub sizes_3 : b ≡ false → Refusedᴿ 3 0 ≡ old_size_ruling s u left room t
         unfolding old_size_ruling ruling_by first_of fault
-        sizes-3 k =
+        sizes_3 k =
             rw (fault_no (sides_fit s) (sym e ∙ d), fault_no (eqb left (3 * cells s)) long, le-ltb room (cells s) (omega arith), fault_yes (unit_fits u && settings_fit t) (sym h ∙ k))
 
-        pub sizes-0 : b ≡ true → Allowed ≡ old_size_ruling s u left room t
+        pub sizes_0 : b ≡ true → Allowed ≡ old_size_ruling s u left room t
         unfolding old_size_ruling ruling_by first_of fault
-        sizes-0 k =
+        sizes_0 k =
             rw (fault_no (sides_fit s) (sym e ∙ d), fault_no (eqb left (3 * cells s)) long, le-ltb room (cells s) (omega arith), fault_no (unit_fits u && settings_fit t) (sym h ∙ k))
 
 pub ruleset limits = (rules, not-true, not-false, limits_yes, limits_no)
 
-pub ruleset sizes = (rules, not-true, not-false, fit_of, sizes_1, sizes_11, sizes-2, sizes-3, sizes-0)
+pub ruleset sizes = (rules, not-true, not-false, fit_of, sizes_1, sizes_11, sizes_2, sizes_3, sizes_0)
 
 -- ---- 4 and 5 of a body: its labels after its values
 pub cells_ruled : (body ls : List ℕ) (n u : ℕ) (x y : Found) (p q o : Ruling) → ls ≡ drop (2 * n) body → o ≡ first_of p q → p ≡ ruling_by 4 x → q ≡ ruling_by 5 y
@@ -199,17 +199,17 @@ module _ (t : Settings) (bytes : List ℕ) (room : ℕ) (h : OldHeader) (z : Old
             ),
           )
 
-      left-true : (a b : Bool) → (a && b) ≡ true → a ≡ true
-      left-true true b q = refl
-      left-true false b q = q
+      left_true : (a b : Bool) → (a && b) ≡ true → a ≡ true
+      left_true true b q = refl
+      left_true false b q = q
 
-      pub sizes-sized : OldSized bytes h
-      sizes-sized = record {
+      pub sizes_sized : OldSized bytes h
+      sizes_sized = record {
         is = named_is;
         within = start_within;
         fit = four.0;
         long = length-drop h.start bytes ∙ eqb-true _ _ four.1.0;
-        unit = unit_to h.unit (left-true (unit_fits h.unit) (settings_fit t) four.1.1.1);
+        unit = unit_to h.unit (left_true (unit_fits h.unit) (settings_fit t) four.1.1.1);
       }
 
       roomy : cells h.sides ≤ room
@@ -220,24 +220,24 @@ module _ (t : Settings) (bytes : List ℕ) (room : ℕ) (h : OldHeader) (z : Old
         unfolding cell_checks old_body_ruling
         cells_found =
             ruling_more _ _ asked (first (bad_label_at (drop (2 * cells h.sides) (drop h.start bytes))) (cells h.sides)) _
-            (ap (λ H. label_fault (old_cast_in H)) named_is ∙ label_fault_lem (old_named_by bytes h) sizes-sized.long)
+            (ap (λ H. label_fault (old_cast_in H)) named_is ∙ label_fault_lem (old_named_by bytes h) sizes_sized.long)
             (ruling_last _ asked (first (bad_old_value (drop h.start bytes) (drop (2 * cells h.sides) (drop h.start bytes)) h.unit) (cells h.sides))
-            (ap (λ H. value_fault (old_cast_in H)) named_is ∙ value_fault_lem (old_named_by bytes h) sizes-sized.long))
+            (ap (λ H. value_fault (old_cast_in H)) named_is ∙ value_fault_lem (old_named_by bytes h) sizes_sized.long))
             ∙ ap ruling_of (sym f)
 
-        by-cells : verdict old_reader_checks asked ≡ ruling_of q
+        by_cells : verdict old_reader_checks asked ≡ ruling_of q
         unfolding first_of
-        by-cells = by_sizes q cells_found ∙ ap (λ x. ruling_of (first_of x q)) d
+        by_cells = by_sizes q cells_found ∙ ap (λ x. ruling_of (first_of x q)) d
 
-        pub cells-refused : (num place : ℕ) → q ≡ Refusedᴿ num place → OldJudgedOf t bytes room (Refused num place)
+        pub cells_refused : (num place : ℕ) → q ≡ Refusedᴿ num place → OldJudgedOf t bytes room (Refused num place)
         unfolding old_verdict_of ruling_of OldReadyIf
-        cells-refused num place g = record { is = by-cells ∙ ap ruling_of g; ready = tt }
+        cells_refused num place g = record { is = by_cells ∙ ap ruling_of g; ready = tt }
 
-        pub cells-passed : q ≡ Allowed → OldJudgedOf t bytes room (Passed h)
+        pub cells_passed : q ≡ Allowed → OldJudgedOf t bytes room (Passed h)
         unfolding old_verdict_of ruling_of OldReadyIf
-        cells-passed g = record { is = by-cells ∙ ap ruling_of g; ready = record { sized = sizes-sized; roomy = roomy } }
+        cells_passed g = record { is = by_cells ∙ ap ruling_of g; ready = record { sized = sizes_sized; roomy = roomy } }
 
-pub ruleset named = (rules, start_within, sizes_refused, sizes-sized, cells-refused, cells-passed)
+pub ruleset named = (rules, start_within, sizes_refused, sizes_sized, cells_refused, cells_passed)
 
 -- ---- 10
 pub line_refused : (t : Settings) (bytes : List ℕ) (room : ℕ) (x : OldHeaderRead) (k : ℕ) → OldHeaderOf bytes x → x ≡ Wrong k → OldJudgedOf t bytes room (Refused 10 k)

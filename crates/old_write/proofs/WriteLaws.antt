@@ -101,13 +101,13 @@ module _ (s : Sides) (u : ℕ) (ls : List ℕ) (vs : List ℤ) (room : ℕ) wher
     lengths_labels h = rw (ne_eqb (length ls) (cells s) (λ e. h (e ∙ sym c)))
 
     module _ (h : length ls ≡ n) where
-      pub lengths-values : (length vs ≡ n → ⊥) → false ≡ old_lengths_fit lent
+      pub lengths_values : (length vs ≡ n → ⊥) → false ≡ old_lengths_fit lent
       unfolding old_lengths_fit
-      lengths-values k = rw (eq-eqb (length ls) (cells s) (h ∙ c), ne_eqb (length vs) (cells s) (λ e. k (e ∙ sym c)))
+      lengths_values k = rw (eq-eqb (length ls) (cells s) (h ∙ c), ne_eqb (length vs) (cells s) (λ e. k (e ∙ sym c)))
 
-      pub lengths-room : (m : ℕ) → length vs ≡ n → OldHeaderLength s u m → leb (m + 3 * n) room ≡ old_lengths_fit lent
+      pub lengths_room : (m : ℕ) → length vs ≡ n → OldHeaderLength s u m → leb (m + 3 * n) room ≡ old_lengths_fit lent
       unfolding old_lengths_fit
-      lengths-room m k l =
+      lengths_room m k l =
           let need : m + 3 * n ≡ length whole = sym (written_length s u ls vs ∙ omega (arith, l.is)) in
           ap (λ m. leb m room) need ∙ rw (eq-eqb (length ls) (cells s) (h ∙ c), eq-eqb (length vs) (cells s) (k ∙ c), length-replicate {A = ℕ} room 0)
 
@@ -125,15 +125,15 @@ module _ (s : Sides) (u : ℕ) (ls : List ℕ) (vs : List ℤ) (room : ℕ) wher
     slices_2 e = rw (fault_yes (old_lengths_fit lent) (sym p ∙ e))
 
     module _ (e : b ≡ true) (n : ℕ) (c : n ≡ cells s) where
-      pub slices-labels : n ≤ length ls
-      slices-labels = omega (arith, c, (lengths_known (sym p ∙ e)).0)
+      pub slices_labels : n ≤ length ls
+      slices_labels = omega (arith, c, (lengths_known (sym p ∙ e)).0)
 
-      pub slices-values : n ≤ length vs
-      slices-values = omega (arith, c, (lengths_known (sym p ∙ e)).1.0)
+      pub slices_values : n ≤ length vs
+      slices_values = omega (arith, c, (lengths_known (sym p ∙ e)).1.0)
 
-      pub slices-cells : (o q r : Ruling) (x : Found) → o ≡ first_of q r → q ≡ cell_ruling ls vs n → r ≡ ruling_by 13 x → x ≡ first (inexpressible u vs) n → o ≡ old_slice_ruling lent
+      pub slices_cells : (o q r : Ruling) (x : Found) → o ≡ first_of q r → q ≡ cell_ruling ls vs n → r ≡ ruling_by 13 x → x ≡ first (inexpressible u vs) n → o ≡ old_slice_ruling lent
       unfolding old_slice_ruling ruling_by first_of
-      slices-cells o q r x g a d f =
+      slices_cells o q r x g a d f =
           g ∙ ap₂ first_of (a ∙ ap (cell_ruling ls vs) c) (d ∙ ap (ruling_by 13) (f ∙ ap (first (inexpressible u vs)) c))
           ∙ sym (ap (λ y. first_of (ruling_by 2 y) (first_of (cell_ruling ls vs (cells s)) (ruling_by 13 (first (inexpressible u vs) (cells s))))) (fault_no (old_lengths_fit lent) (sym p ∙ e)))
 
@@ -158,19 +158,19 @@ module _ (s : Sides) (u : ℕ) (ls : List ℕ) (vs : List ℤ) (room : ℕ) wher
     cast_1 d = record { is = fails_at _ _ lent 0 (fault_yes (sides_fit s) (sym p ∙ d)); roomy = tt }
 
     module _ (d : a ≡ true) where
-      pub cast-fit : Fit s
-      cast-fit = fit s (sym p ∙ d)
+      pub cast_fit : Fit s
+      cast_fit = fit s (sym p ∙ d)
 
       module _ (b : Bool) (q : b ≡ unit_fits u) where
-        pub cast-3 : b ≡ false → OldRuledOf s u ls vs room (Refused 3 0)
+        pub cast_3 : b ≡ false → OldRuledOf s u ls vs room (Refused 3 0)
         unfolding old_writer_checks ruling_of OldRoomIf
-        cast-3 e = record { is = passes_on _ _ lent (fault_no (sides_fit s) (sym p ∙ d)) ∙ fails_at _ _ lent 0 (fault_yes (unit_fits u) (sym q ∙ e)); roomy = tt }
+        cast_3 e = record { is = passes_on _ _ lent (fault_no (sides_fit s) (sym p ∙ d)) ∙ fails_at _ _ lent 0 (fault_yes (unit_fits u) (sym q ∙ e)); roomy = tt }
 
-        pub cast-unit : b ≡ true → 0 < u
-        cast-unit e = unit_from u (sym q ∙ e)
+        pub cast_unit : b ≡ true → 0 < u
+        cast_unit e = unit_from u (sym q ∙ e)
 
         pub cast_slices : (r : Ruling) → b ≡ true → r ≡ old_slice_ruling lent → OldRuledOf s u ls vs room r
-        cast_slices r e f = record { is = slices_ruled r f (sym p ∙ d) (sym q ∙ e); roomy = room_if (cast-unit e) r f }
+        cast_slices r e f = record { is = slices_ruled r f (sym p ∙ d) (sym q ∙ e); roomy = room_if (cast_unit e) r f }
 
 pub ready_fit : (s : Sides) (a : Bool) → a ≡ sides_fit s → a ≡ true → Fit s
 ready_fit s a p d = fit s (sym p ∙ d)
@@ -178,11 +178,11 @@ ready_fit s a p d = fit s (sym p ∙ d)
 pub ready_unit : (u : ℕ) (b : Bool) → b ≡ unit_fits u → b ≡ true → 0 < u
 ready_unit u b q e = unit_from u (sym q ∙ e)
 
-pub ruleset lengths = (rules, not-true, not-false, lengths_labels, lengths-values, lengths-room)
+pub ruleset lengths = (rules, not-true, not-false, lengths_labels, lengths_values, lengths_room)
 
-pub ruleset slices = (rules, not-true, not-false, slices_2, slices-labels, slices-values, slices-cells)
+pub ruleset slices = (rules, not-true, not-false, slices_2, slices_labels, slices_values, slices_cells)
 
-pub ruleset casts = (rules, not-true, not-false, cast_1, cast-3, cast_slices)
+pub ruleset casts = (rules, not-true, not-false, cast_1, cast_3, cast_slices)
 
 -- ---- what the writer makes of it
 writing_refused : (w : OldWriting) (num place : ℕ) → verdict old_writer_checks w ≡ refused num place → old_writing w ≡ record { answer = refusal num place; count = 0; output = w.output }

@@ -162,26 +162,26 @@ module _ (t : Settings) (bs : List ℕ) (s : Sides) (vs : List ℤ) (z : OldIsRe
       unfolding old_is_read
       labels_is = ap (λ r. r.labels) (reading_passed (old_asked t bs (length vs)) z.passes)
 
-      same-cast : ◌≡◌ {A = Cast} (record { sides = s; labels = labels; values = take n vs }) (old_cast_in (old_header bs))
+      same_cast : ◌≡◌ {A = Cast} (record { sides = s; labels = labels; values = take n vs }) (old_cast_in (old_header bs))
       unfolding old_cast_in
-      same-cast = cast_eq s (old_header bs).sides labels (old_labels_in (old_header bs)) (take n vs) (old_values_in (old_header bs)) z.sides (f ∙ labels_is) (ap (λ k. take k vs) c ∙ z.values)
+      same_cast = cast_eq s (old_header bs).sides labels (old_labels_in (old_header bs)) (take n vs) (old_values_in (old_header bs)) z.sides (f ∙ labels_is) (ap (λ k. take k vs) c ∙ z.values)
 
-      new-session : writing (offered s o t labels (take n vs) out)
+      new_session : writing (offered s o t labels (take n vs) out)
           ≡ record { answer = done; count = length (written (old_cast_in (old_header bs)) o t); output = filled (length (written (old_cast_in (old_header bs)) o t)) (written (old_cast_in (old_header bs)) o t) out }
-      new-session =
-          ap (λ k. writing (record { cast = k; order = o; settings = t; output = out })) same-cast
+      new_session =
+          ap (λ k. writing (record { cast = k; order = o; settings = t; output = out })) same_cast
           ∙ writing_passed (anew (length vs) o t bs z.passes out h) (writer_passes (length vs) o t bs z.passes out h)
 
-      pub renew-written : (r : Back) (new : List ℕ) → WriteOf s o t labels (take n vs) out r new → RenewOf (length vs) o t bs out r new
-      renew-written r new w =
+      pub renew_written : (r : Back) (new : List ℕ) → WriteOf s o t labels (take n vs) out r new → RenewOf (length vs) o t bs out r new
+      renew_written r new w =
           let q = renewal_passed (length vs) o t bs z.passes in
           record {
-            answer = w.answer ∙ ap (λ x. x.answer) new-session ∙ sym (ap (λ x. x.answer) q);
-            count = w.count ∙ ap (λ x. x.count) new-session ∙ sym (ap (λ x. length x.bytes) q);
-            output = w.output ∙ ap (λ x. x.output) new-session ∙ sym (ap (λ x. filled (length x.bytes) x.bytes out) q);
+            answer = w.answer ∙ ap (λ x. x.answer) new_session ∙ sym (ap (λ x. x.answer) q);
+            count = w.count ∙ ap (λ x. x.count) new_session ∙ sym (ap (λ x. length x.bytes) q);
+            output = w.output ∙ ap (λ x. x.output) new_session ∙ sym (ap (λ x. filled (length x.bytes) x.bytes out) q);
           }
 
-pub ruleset newly = (rules, renew_fit, renew_values, renew_part, renew-written)
+pub ruleset newly = (rules, renew_fit, renew_values, renew_part, renew_written)
 
 -- ---- the program's promise: the front of an old session decides
 -- what is put at the front of a list that is long enough is within it

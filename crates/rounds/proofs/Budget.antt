@@ -134,9 +134,9 @@ module _ (g : Sides) (ls : List ℕ) (vs : List ℤ) (t : Settings) where
     left_none = let none : t.rounds - 0 ≡ t.rounds = omega arith in record { is = ap (λ n. from n (state_of (cells g) 0 +0 e)) none }
 
     module _ (done : ℕ) (rho : Float) (m : List Float) (l : Left done rho m) (v : Tested) (tv : v ≡ tested k t (x_of (cells g) m)) where
-      pub left-pass : (w : ℕ) (r : Ended) → v ≡ Passed w → r ≡ Accepted done w → RunOf g ls vs t e r m
+      pub left_pass : (w : ℕ) (r : Ended) → v ≡ Passed w → r ≡ Accepted done w → RunOf g ls vs t e r m
       unfolding pass end_of
-      left-pass w r q a =
+      left_pass w r q a =
           let y = pass_here v m tv w q in
           record { is = sym l.is ∙ run_passes (t.rounds - done) (state_of (cells g) done rho m) y.0 ∙ rw (y.1, a) refl }
 
@@ -151,18 +151,18 @@ module _ (g : Sides) (ls : List ℕ) (vs : List ℤ) (t : Settings) where
         some_left : t.rounds - done ≡ suc (t.rounds - (done + 1))
         some_left = omega arith
 
-        level-count : below plan ≡ t.levels - 1
-        level-count = ap (λ n. n - 1) z.levels
+        level_count : below plan ≡ t.levels - 1
+        level_count = ap (λ n. n - 1) z.levels
 
         left_after : (u : Turn) → round g ls (below plan) (state_of (cells g) done rho m) ≡ u
             → from t.rounds (state_of (cells g) 0 +0 e) ≡ after (t.rounds - (done + 1)) (state_of (cells g) done rho m) u
         left_after u y =
             sym l.is ∙ ap (λ n. from n (state_of (cells g) done rho m)) some_left
-            ∙ run_more (t.rounds - (done + 1)) (state_of (cells g) done rho m) u (fail_here v m tv q) (ap (λ n. round g ls n (state_of (cells g) done rho m)) (sym level-count) ∙ y)
+            ∙ run_more (t.rounds - (done + 1)) (state_of (cells g) done rho m) u (fail_here v m tv q) (ap (λ n. round g ls n (state_of (cells g) done rho m)) (sym level_count) ∙ y)
 
-        pub left-stall : (a : Float) (r : Ended) → w ≡ Stalled a → r ≡ Unfinished 9 done → RunOf g ls vs t e r s
+        pub left_stall : (a : Float) (r : Ended) → w ≡ Stalled a → r ≡ Unfinished 9 done → RunOf g ls vs t e r s
         unfolding after fail end_of
-        left-stall a r y b = record { is = left_after stalled (round_stalls g ls (below plan) done rho m s o c w sw a y) ∙ rw b refl }
+        left_stall a r y b = record { is = left_after stalled (round_stalls g ls (below plan) done rho m s o c w sw a y) ∙ rw b refl }
 
         pub left_more : (alpha : Float) (x : List Float) → w ≡ Go alpha → Advanced g ls alpha s x → Left (done + 1) o.rho x
         unfolding after
@@ -223,7 +223,7 @@ module _ (g : Sides) (ls : List ℕ) (vs : List ℤ) (e m : List Float) (h : Hel
   pub end_is : (t : Settings) (a : Ended) (s : List Float) → RunOf g ls vs t m a s → EndOf g ls vs t a s
   end_is t a s y = record { is = ap (run (cast_of g ls vs) t t.rounds) (sym start_is) ∙ y.is }
 
-pub ruleset budget = (turns, start_calm, left_none, left-pass, left_end, left-stall, left_more, held_ready, same_ready, end_is)
+pub ruleset budget = (turns, start_calm, left_none, left_pass, left_end, left_stall, left_more, held_ready, same_ready, end_is)
 
 -- ---- THE PROMISE IS ONE RESULT: how the rounds ended, and the pressures where they are accepted
 not_both : {n w m o : ℕ} {ps : List ℤ} → solved n w ps ≡ failed m o → ⊥

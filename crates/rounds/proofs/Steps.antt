@@ -32,13 +32,13 @@ module _ (q : Scalars) (r : Bool) (er : r ≡ usable q.rho) where
     step_sigma h k = rw (sym er ∙ h, sym es ∙ k)
 
     module _ (a : Bool) (ea : a ≡ finite q.alpha) where
-      pub step-alpha : r ≡ true → s ≡ true → a ≡ false → Stalled q.alpha ≡ step q
+      pub step_alpha : r ≡ true → s ≡ true → a ≡ false → Stalled q.alpha ≡ step q
       unfolding step
-      step-alpha h k l = rw (sym er ∙ h, sym es ∙ k, sym ea ∙ l)
+      step_alpha h k l = rw (sym er ∙ h, sym es ∙ k, sym ea ∙ l)
 
-      pub step-go : r ≡ true → s ≡ true → a ≡ true → Go q.alpha ≡ step q
+      pub step_go : r ≡ true → s ≡ true → a ≡ true → Go q.alpha ≡ step q
       unfolding step
-      step-go h k l = rw (sym er ∙ h, sym es ∙ k, sym ea ∙ l)
+      step_go h k l = rw (sym er ∙ h, sym es ∙ k, sym ea ∙ l)
 
 -- beta: none in the first round
 pub beta_none : (done : ℕ) (new old : Float) → done ≡ 0 → +0 ≡ beta_of done new old
@@ -50,4 +50,4 @@ unfolding beta_of
 beta_some zero new old h = absurd (h refl)
 beta_some (suc k) new old h = refl
 
-pub ruleset steps = (rules, usable_finite, usable_none, step_rho, step_sigma, step-alpha, step-go, beta_none, beta_some)
+pub ruleset steps = (rules, usable_finite, usable_none, step_rho, step_sigma, step_alpha, step_go, beta_none, beta_some)

@@ -70,16 +70,16 @@ module _ (k : ℕ) (a b c l : List ℕ) (r : LineRead) (h : LineOf (number_line 
       total : (z n : ℕ) → t ≡ Value z n → i + j + n ≤ length l
       total z n u = omega (arith, line_within (number_line a) l r x i h e, line_within (number_line b) m s y j g d, line_within (number_line c) o t z n q u, ap length f, ap length p, length-drop i l, length-drop j m)
 
-      pub three-all : (z n : ℕ) → t ≡ Value z n → ThreeOf k a b c l (Values x y z (i + j + n))
+      pub three_all : (z n : ℕ) → t ≡ Value z n → ThreeOf k a b c l (Values x y z (i + j + n))
       unfolding three_of taken3 more read_lines
-      three-all z n u = record {
+      three_all z n u = record {
         is = on' ∙ rw (read_good (number_line c) [] (suc (suc k)) o z (drop n o) (line_good (number_line c) o (drop n o) t z n q u refl))
             (ap (right (x ∷ y ∷ z ∷ [])) (ap (drop n) (p ∙ ap (drop j) f ∙ drop-drop j i l) ∙ drop-drop n (i + j) l));
         within = total z n u;
       }
 
-      pub three-fits : (z n : ℕ) → t ≡ Value z n → length l < 2 ^ 64 → Fits w64 (i + j + n)
-      three-fits z n u v = record { fits = omega (arith, total z n u) }
+      pub three_fits : (z n : ℕ) → t ≡ Value z n → length l < 2 ^ 64 → Fits w64 (i + j + n)
+      three_fits z n u v = record { fits = omega (arith, total z n u) }
 
     pub two_fits : (y j : ℕ) → s ≡ Value y j → length l < 2 ^ 64 → Fits w64 (i + j)
     two_fits y j d v = record { fits = omega (arith, line_within (number_line a) l r x i h e, line_within (number_line b) m s y j g d, ap length f, length-drop i l) }
@@ -179,4 +179,4 @@ module _ (l : List ℕ) (t : ThreeRead) (h : ThreeOf 1 (text "nx=") (text "ny=")
 
 pub ruleset headers = (rules, line_within, order_zero, order_other, on_fourth, on_later, on_all, header_sides, header_all, three_within)
 
-pub ruleset threes = (rules, line_within, three_first, three_second, three_third, three-all)
+pub ruleset threes = (rules, line_within, three_first, three_second, three_third, three_all)

@@ -153,28 +153,28 @@ module _ (bytes : List ℕ) (room : ℕ) (h : Header) (z : Bodied bytes h) where
       short =
           ap fault (ap₂ ltb (length-replicate room (pos 0)) (ap (λ H. cells H.sides) z.sized.is ∙ sym c) ∙ short_by n room)
 
-      past-11 : verdict reader_checks (asked bytes room) ≡ verdict (room_check ∷ content_checks) (asked bytes room)
+      past_11 : verdict reader_checks (asked bytes room) ≡ verdict (room_check ∷ content_checks) (asked bytes room)
       unfolding reader_checks line_check side_check body_check
-      past-11 =
+      past_11 =
           passes_on _ _ (asked bytes room) z.line
           ∙ passes_on _ _ (asked bytes room) (fault_no (sides_fit (header bytes).sides) (ap (λ H. sides_fit H.sides) z.sized.is ∙ z.sized.fit))
           ∙ passes_on _ _ (asked bytes room)
           (fault_no (eqb (length (header bytes).body) (5 * cells (header bytes).sides)) (ap (λ H. eqb (length H.body) (5 * cells H.sides)) z.sized.is ∙ eq-eqb _ _ z.sized.long))
 
-      by-body : verdict reader_checks (asked bytes room) ≡ ruling_of o
+      by_body : verdict reader_checks (asked bytes room) ≡ ruling_of o
       unfolding room_check
-      by-body = past-11 ∙ ruling_more room_check content_checks (asked bytes room) (fault (not (leb n room))) q short (content_same bytes room ∙ eq) ∙ ap ruling_of (ap (λ r. first_of r q) (sym ep) ∙ sym eo)
+      by_body = past_11 ∙ ruling_more room_check content_checks (asked bytes room) (fault (not (leb n room))) q short (content_same bytes room ∙ eq) ∙ ap ruling_of (ap (λ r. first_of r q) (sym ep) ∙ sym eo)
 
       pub body_refused : (num place : ℕ) → o ≡ Refusedᴿ num place → JudgedOf bytes room (Refused num place)
       unfolding verdict_of ruling_of ReadyIf
-      body_refused num place d = record { is = by-body ∙ rw d; ready = tt }
+      body_refused num place d = record { is = by_body ∙ rw d; ready = tt }
 
-      pub body-passed : o ≡ Allowed → JudgedOf bytes room (Passed h)
+      pub body_passed : o ≡ Allowed → JudgedOf bytes room (Passed h)
       unfolding verdict_of ruling_of ReadyIf
-      body-passed d =
+      body_passed d =
           let a : p ≡ Allowed = (both_allowed p q (sym eo ∙ d)).0 in
           let f : leb n room ≡ true = no_fault (leb n room) (ruled_none 2 _ (sym ep ∙ a)) in
-          record { is = by-body ∙ rw d; ready = record { sized = z.sized; roomy = rw c at (leb-true n room f) } }
+          record { is = by_body ∙ rw d; ready = record { sized = z.sized; roomy = rw c at (leb-true n room f) } }
 
 pub session_10 : (bytes : List ℕ) (room : ℕ) (x : HeaderRead) (k : ℕ) → HeaderOf bytes x → x ≡ Wrong k → JudgedOf bytes room (Refused 10 k)
 unfolding reader_checks line_check wrong_in verdict_of ReadyIf
@@ -183,4 +183,4 @@ session_10 bytes room x k z e = record { is = fails_at _ _ (asked bytes room) k 
 pub header_named : (bytes : List ℕ) (x : HeaderRead) (h : Header) → HeaderOf bytes x → x ≡ Named h → HeaderOf bytes (Named h)
 header_named bytes x h z e = rw e at z
 
-pub ruleset sized = (rules, start_within, sizes_refused, sizes_bodied, bodied_fit, bodied_sized, body_refused, body-passed, session_10, header_named)
+pub ruleset sized = (rules, start_within, sizes_refused, sizes_bodied, bodied_fit, bodied_sized, body_refused, body_passed, session_10, header_named)

@@ -62,13 +62,13 @@ module _ (s : Sides) (o : Order) (t : Settings) (ls : List ℕ) (vs : List ℤ) 
     lengths_labels h = rw (ne_eqb (length ls) (cells s) (λ e. h (e ∙ sym c)))
 
     module _ (h : length ls ≡ n) where
-      pub lengths-values : (length vs ≡ n → ⊥) → false ≡ writer_lengths_fit lent
+      pub lengths_values : (length vs ≡ n → ⊥) → false ≡ writer_lengths_fit lent
       unfolding writer_lengths_fit
-      lengths-values k = rw (eq-eqb (length ls) (cells s) (h ∙ c), ne_eqb (length vs) (cells s) (λ e. k (e ∙ sym c)))
+      lengths_values k = rw (eq-eqb (length ls) (cells s) (h ∙ c), ne_eqb (length vs) (cells s) (λ e. k (e ∙ sym c)))
 
-      pub lengths-room : (d : Bool) → length vs ≡ n → d ≡ leb (length (header_written s o t) + 5 * n) room → d ≡ writer_lengths_fit lent
+      pub lengths_room : (d : Bool) → length vs ≡ n → d ≡ leb (length (header_written s o t) + 5 * n) room → d ≡ writer_lengths_fit lent
       unfolding writer_lengths_fit
-      lengths-room d k l =
+      lengths_room d k l =
           let need : length (header_written s o t) + 5 * n ≡ length whole = sym (written_length s o t ls vs ∙ omega arith) in
           l ∙ ap (λ m. leb m room) need ∙ rw (eq-eqb (length ls) (cells s) (h ∙ c), eq-eqb (length vs) (cells s) (k ∙ c), length-replicate {A = ℕ} room 0)
 
@@ -86,15 +86,15 @@ module _ (s : Sides) (o : Order) (t : Settings) (ls : List ℕ) (vs : List ℤ) 
     slices_2 e = sym (ap (λ f. first_of (ruling_by 2 f) (cell_ruling ls vs (cells s))) (fault_yes (writer_lengths_fit lent) (sym p ∙ e)))
 
     module _ (e : b ≡ true) (n : ℕ) (c : n ≡ cells s) where
-      pub slices-labels : n ≤ length ls
-      slices-labels = omega (arith, c, (lengths_known (sym p ∙ e)).0)
+      pub slices_labels : n ≤ length ls
+      slices_labels = omega (arith, c, (lengths_known (sym p ∙ e)).0)
 
-      pub slices-values : n ≤ length vs
-      slices-values = omega (arith, c, (lengths_known (sym p ∙ e)).1.0)
+      pub slices_values : n ≤ length vs
+      slices_values = omega (arith, c, (lengths_known (sym p ∙ e)).1.0)
 
-      pub slices-cells : (r : Ruling) → r ≡ cell_ruling ls vs n → r ≡ slice_ruling lent
+      pub slices_cells : (r : Ruling) → r ≡ cell_ruling ls vs n → r ≡ slice_ruling lent
       unfolding slice_ruling ruling_by first_of
-      slices-cells r q =
+      slices_cells r q =
           q ∙ ap (cell_ruling ls vs) c ∙ sym (ap (λ f. first_of (ruling_by 2 f) (cell_ruling ls vs (cells s))) (fault_no (writer_lengths_fit lent) (sym p ∙ e)))
 
   room_if : (q : Ruling) → q ≡ slice_ruling lent → RoomIf (length whole) room q
@@ -126,9 +126,9 @@ module _ (s : Sides) (o : Order) (t : Settings) (ls : List ℕ) (vs : List ℤ) 
     unfolding first_of
     cast_slices q d e = record { is = by_limits q e ∙ ap (λ x. ruling_of (first_of x q)) d; roomy = room_if q e }
 
-pub ruleset lengths = (rules, not-true, not-false, lengths_labels, lengths-values, lengths-room)
+pub ruleset lengths = (rules, not-true, not-false, lengths_labels, lengths_values, lengths_room)
 
-pub ruleset slices = (rules, not-true, not-false, slices_2, slices-labels, slices-values, slices-cells)
+pub ruleset slices = (rules, not-true, not-false, slices_2, slices_labels, slices_values, slices_cells)
 
 pub ruleset casts = (rules, cast_refused, limits_fit, cast_slices)
 

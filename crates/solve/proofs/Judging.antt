@@ -57,15 +57,15 @@ module _ (n labels values pressures bytes floats words : ℕ) where
       bytes_short h = rw (eq-eqb labels n a, eq-eqb values n b, eq-eqb pressures n c, lt-leb (byte_need n) bytes (omega (arith, p)))
 
       module _ (m : ℕ) (q : m ≡ float_need n) (d : l ≤ bytes) where
-        pub floats-short : floats < m → false ≡ lengths_by n labels values pressures bytes floats words
+        pub floats_short : floats < m → false ≡ lengths_by n labels values pressures bytes floats words
         unfolding lengths_by
-        floats-short h = rw (eq-eqb labels n a, eq-eqb values n b, eq-eqb pressures n c, le-leb (byte_need n) bytes (omega (arith, p)), lt-leb (float_need n) floats (omega (arith, q)))
+        floats_short h = rw (eq-eqb labels n a, eq-eqb values n b, eq-eqb pressures n c, le-leb (byte_need n) bytes (omega (arith, p)), lt-leb (float_need n) floats (omega (arith, q)))
 
         pub words_last : (k : ℕ) → k ≡ word_need n → m ≤ floats → leb k words ≡ lengths_by n labels values pressures bytes floats words
         unfolding lengths_by
         words_last k r e = rw (eq-eqb labels n a, eq-eqb values n b, eq-eqb pressures n c, le-leb (byte_need n) bytes (omega (arith, p)), le-leb (float_need n) floats (omega (arith, q)), r)
 
-pub ruleset lengths = (rules, labels_wrong, values_wrong, pressures_wrong, bytes_short, floats-short, words_last)
+pub ruleset lengths = (rules, labels_wrong, values_wrong, pressures_wrong, bytes_short, floats_short, words_last)
 
 -- ---- check 6: some cell is air
 module _ (ls : List ℕ) where

@@ -169,10 +169,10 @@ module _ (g : Sides) (ls : List ℕ) (vs : List ℤ) (t : Settings) (ps : List �
 
     module _ (bp : List ℕ) (fp : List Float) (wp : List ℕ) (eb : length bp ≡ length (mid_of 0 (2 * length ls + 16 - 0) bytes))
         (ef : length fp ≡ length (mid_of 0 (8 * length ls + 64 - 0) floats)) (ew : length wp ≡ length (mid_of 0 (2 * length ls - 0) words)) where
-      pub clear-asked : (length ls ≤ 32768) × ((byte_need (length ls) ≤ length (put_mid 0 (2 * length ls + 16 - 0) bytes bp))
+      pub clear_asked : (length ls ≤ 32768) × ((byte_need (length ls) ≤ length (put_mid 0 (2 * length ls + 16 - 0) bytes bp))
           × ((float_need (length ls) ≤ length (put_mid 0 (8 * length ls + 64 - 0) floats fp)) × (word_need (length ls) ≤ length (put_mid 0 (2 * length ls - 0) words wp))))
       unfolding byte_need float_need word_need
-      clear-asked = (
+      clear_asked = (
         z.few,
         (
           omega (arith, same_len_mid 0 (2 * length ls + 16 - 0) bytes bp eb, z.bytes_room),
@@ -180,11 +180,11 @@ module _ (g : Sides) (ls : List ℕ) (vs : List ℤ) (t : Settings) (ps : List �
         ),
       )
 
-      pub solved-is : (r : Answer) (qs : List ℤ) (bs : List ℕ) (fs : List Float) (ws : List ℕ) → Worked (cast_of g ls vs) t ps r qs
+      pub solved_is : (r : Answer) (qs : List ℤ) (bs : List ℕ) (fs : List Float) (ws : List ℕ) → Worked (cast_of g ls vs) t ps r qs
           → bs ≡ cleared (byte_need (length ls)) 0 (put_mid 0 (2 * length ls + 16 - 0) bytes bp) → fs ≡ cleared (float_need (length ls)) +0 (put_mid 0 (8 * length ls + 64 - 0) floats fp)
           → ws ≡ cleared (word_need (length ls)) 0 (put_mid 0 (2 * length ls - 0) words wp) → SolveOf a r qs bs fs ws
       unfolding handed_back
-      solved-is r qs bs fs ws w b f o =
+      solved_is r qs bs fs ws w b f o =
           let e : solving a ≡ handed_back a r qs = past_six a z.passes ∙ w.is a refl refl refl in
           record {
             answer = sym (ap (λ (s : Solved). s.answer) e);

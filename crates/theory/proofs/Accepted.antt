@@ -23,11 +23,11 @@ use Rattle.method.specs.Solving.{Asked, size, Solved, lengths_fit, checks_before
 use Rattle.theory.specs.Walks.{Walk}
 use Rattle.theory.specs.Answered.{label, left, Away, Accepted, CutOff}
 use Rattle.theory.proofs.Verdicts.{AllPass, no_fault, no_fault'}
-use Rattle.theory.proofs.Reach.{air_test, test_air, in_box_lem, found-cases, never, same_steps, least_walk, no_walk}
+use Rattle.theory.proofs.Reach.{air_test, test_air, in_box_lem, found_cases, never, same_steps, least_walk, no_walk}
 use Rattle.theory.proofs.Counting.{some_counted}
 use Rattle.theory.proofs.Greatest.{greatest_all, greatest_attained}
 use Rattle.theory.proofs.Firsts.{FirstAt, Search, found, none, search_first}
-use Rattle.theory.proofs.Pressures.{length_rounded, openings_rounded, walls_rounded, worst-passes, air-rounded}
+use Rattle.theory.proofs.Pressures.{length_rounded, openings_rounded, walls_rounded, worst_passes, air_rounded}
 use Rattle.theory.proofs.Worst.{where_worst}
 use Rattle.theory.proofs.Outcome.{Outcome, early, cut_off, unended, right, outcome}
 
@@ -67,7 +67,7 @@ module _ (a : Asked) (ok : AllPass checks_before7 a) where
   -- an air cell that is not cut off has a least walk
   has_walk : (c : ℕ) → label a c ≡ 0 → T (not (cut c)) → (d : ℕ) × (get_or (walk a.cast.sides a.cast.labels) c Nowhere ≡ At d) × Away a c d
   unfolding cut is_at
-  has_walk c e t = found-cases (get_or (walk a.cast.sides a.cast.labels) c Nowhere)
+  has_walk c e t = found_cases (get_or (walk a.cast.sides a.cast.labels) c Nowhere)
       (λ d h. (d, h, away c d e h))
       (λ h. absurd (T_not (is_air a.cast.labels c && not (is_at (get_or (walk a.cast.sides a.cast.labels) c Nowhere))) t
       (and_in (is_air a.cast.labels c) (not (is_at (get_or (walk a.cast.sides a.cast.labels) c Nowhere))) (air_test a.cast.labels c e) (rw h tt))))
@@ -110,7 +110,7 @@ made a st t p q =
     record {
       worst_all = λ c e. greatest_all (is_air a.cast.labels) size-at (size a) c (in_box_lem (size a) a.cast.labels (sized a p) c (omega arith)) (air_test a.cast.labels c e);
       worst_one = (top.0, test_air a.cast.labels top.0 top.2, top.3);
-      worst_fits = worst-passes a.cast st.x (sized a p) a.settings t;
+      worst_fits = worst_passes a.cast st.x (sized a p) a.settings t;
       worst_cell_is_air = there.air;
       worst_value_is_left = there.value;
       worst_size = there.size;
@@ -123,7 +123,7 @@ made a st t p q =
       one_a_cell = length_rounded a.cast st.x;
       at_openings = openings_rounded a.cast st.x (sized a p);
       at_walls = walls_rounded a.cast st.x (sized a p);
-      at_air = air-rounded a.cast st.x (sized a p) a.settings t;
+      at_air = air_rounded a.cast st.x (sized a p) a.settings t;
     }
 
 -- ---- THE THEOREMS

@@ -65,7 +65,7 @@ module _ (n : ℕ) (w : ℕ → ℕ → ℕ) (w-sym : (i j : ℕ) → i < n → 
       ∙ sum_add n (inner i) (outer i))
       ∙ sum_add n (λ i. sum n (λ j. inner i j)) (λ i. sum n (λ j. outer i j))
       ∙ ap (λ x. x +ᶻ sum n (λ i. sum n (λ j. outer i j))) (anti n inner (λ i j l k. keep_anti (c i) (c j) (pos (w i j) *ᶻ (e i -ᶻ e j)) (pos (w j i) *ᶻ (e j -ᶻ e i)) (flip (w i j) (w j i) (e i) (e j) (w-sym i j l k))))
-      ∙ add-zero (sum n (λ i. sum n (λ j. outer i j)))
+      ∙ add_zero (sum n (λ i. sum n (λ j. outer i j)))
     where
       inner : ℕ → ℕ → ℤ
       inner i j = keep (c i) (keep (c j) (pos (w i j) *ᶻ (e i -ᶻ e j)))
@@ -73,8 +73,8 @@ module _ (n : ℕ) (w : ℕ → ℕ → ℕ) (w-sym : (i j : ℕ) → i < n → 
       outer : ℕ → ℕ → ℤ
       outer i j = keep (c i) (keep (not (c j)) (pos (w i j) *ᶻ (e i -ᶻ e j)))
 
-      add-zero : (x : ℤ) → pos 0 +ᶻ x ≡ x
-      add-zero x = let X = at x in z_eq (search lin) (omega arith)
+      add_zero : (x : ℤ) → pos 0 +ᶻ x ≡ x
+      add_zero x = let X = at x in z_eq (search lin) (omega arith)
 
   outer_nonneg : (down : (i j : ℕ) → i < n → j < n → T (c i) → T (not (c j)) → 1 ≤ w i j → e j ≤ℤ e i) (i j : ℕ) → i < n → j < n → pos 0 ≤ℤ keep (c i) (keep (not (c j)) (pos (w i j) *ᶻ (e i -ᶻ e j)))
   outer_nonneg down i j l k = go (c i) (not (c j)) (w i j) (down i j l k)

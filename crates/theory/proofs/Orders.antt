@@ -127,7 +127,7 @@ module _ {A : Type 0} (f : ℕ → A → A) where
     pub record Orders (l m : List ℕ) : Type 0 where
       pub sorted : Sorted key l
       pub sorted' : Sorted key' m
-      pub same-hits : (c : ℕ) → hits l c ≡ hits m c
+      pub same_hits : (c : ℕ) → hits l c ≡ hits m c
       pub swaps : (x y : ℕ) → 1 ≤ hits l x → 1 ≤ hits l y → key x ≤ key y → key' y ≤ key' x → Swap x y
 
     none : (m : List ℕ) → ((c : ℕ) → 0 ≡ hits m c) → [] ≡ m
@@ -145,7 +145,7 @@ module _ {A : Type 0} (f : ℕ → A → A) where
           go : Dec (x ≡ y) → key' y ≤ key' x → Swap x y
           go (yes e) k = rw (← e) (λ s. refl)
           go (no e) k =
-              let there : 1 ≤ hits l y = omega (arith, same_no x y e, o.same-hits y, hits_append p (x ∷ q) y) in
+              let there : 1 ≤ hits l y = omega (arith, same_no x y e, o.same_hits y, hits_append p (x ∷ q) y) in
               o.swaps x y (hits_first x l) (omega arith) (o.sorted.0 y there) k
 
       rest : Orders l (p ++ q)
@@ -153,48 +153,48 @@ module _ {A : Type 0} (f : ℕ → A → A) where
       rest = record {
         sorted = o.sorted.1;
         sorted' = without key' p x q o.sorted';
-        same-hits = λ c. omega (arith, o.same-hits c, hits_append p (x ∷ q) c, hits_append p q c);
+        same_hits = λ c. omega (arith, o.same_hits c, hits_append p (x ∷ q) c, hits_append p q c);
         swaps = λ y z h k. o.swaps y z (omega arith) (omega arith);
       }
 
-      forth-first : (s : A) → forth (p ++ (x ∷ q)) s ≡ forth (p ++ q) (f x s)
+      forth_first : (s : A) → forth (p ++ (x ∷ q)) s ≡ forth (p ++ q) (f x s)
       unfolding forth
-      forth-first s = forth_append p (x ∷ q) s ∙ ap (forth q) (forth_past x p before s) ∙ sym (forth_append p q (f x s))
+      forth_first s = forth_append p (x ∷ q) s ∙ ap (forth q) (forth_past x p before s) ∙ sym (forth_append p q (f x s))
 
-      against-first : (s : A) → against (p ++ (x ∷ q)) s ≡ f x (against (p ++ q) s)
+      against_first : (s : A) → against (p ++ (x ∷ q)) s ≡ f x (against (p ++ q) s)
       unfolding against
-      against-first s = against_append p (x ∷ q) s ∙ sym (against_past x p before (against q s)) ∙ ap (f x) (sym (against_append p q s))
+      against_first s = against_append p (x ∷ q) s ∙ sym (against_past x p before (against q s)) ∙ ap (f x) (sym (against_append p q s))
 
     moved : (l m : List ℕ) {m' : List ℕ} → m ≡ m' → Orders l m → Orders l m'
     moved l m e o = subst (Orders l) e o
 
     pub any_order : (l m : List ℕ) → Orders l m → (s : A) → forth l s ≡ forth m s
     unfolding forth
-    any_order [] m o s = ap (λ m. forth m s) (none m (λ c. sym (unhit c) ∙ o.same-hits c))
-    any_order (x ∷ l) m o s = go (splits m x (omega (arith, o.same-hits x, hits_first x l))) (any_order l)
+    any_order [] m o s = ap (λ m. forth m s) (none m (λ c. sym (unhit c) ∙ o.same_hits c))
+    any_order (x ∷ l) m o s = go (splits m x (omega (arith, o.same_hits x, hits_first x l))) (any_order l)
       where
         go : (p : List ℕ) × (q : List ℕ) × (m ≡ p ++ (x ∷ q)) → ((m : List ℕ) → Orders l m → (s : A) → forth l s ≡ forth m s) → forth l (f x s) ≡ forth m s
         go t ih =
             let o' = moved (x ∷ l) m t.2 o in
-            ih (t.0 ++ t.1) (rest x l t.0 t.1 o') (f x s) ∙ sym (forth-first x l t.0 t.1 o' s) ∙ ap (λ m. forth m s) (sym t.2)
+            ih (t.0 ++ t.1) (rest x l t.0 t.1 o') (f x s) ∙ sym (forth_first x l t.0 t.1 o' s) ∙ ap (λ m. forth m s) (sym t.2)
 
     pub any_order_against : (l m : List ℕ) → Orders l m → (s : A) → against l s ≡ against m s
     unfolding against
-    any_order_against [] m o s = ap (λ m. against m s) (none m (λ c. sym (unhit c) ∙ o.same-hits c))
-    any_order_against (x ∷ l) m o s = go (splits m x (omega (arith, o.same-hits x, hits_first x l))) (any_order_against l)
+    any_order_against [] m o s = ap (λ m. against m s) (none m (λ c. sym (unhit c) ∙ o.same_hits c))
+    any_order_against (x ∷ l) m o s = go (splits m x (omega (arith, o.same_hits x, hits_first x l))) (any_order_against l)
       where
         go : (p : List ℕ) × (q : List ℕ) × (m ≡ p ++ (x ∷ q)) → ((m : List ℕ) → Orders l m → (s : A) → against l s ≡ against m s) → f x (against l s) ≡ against m s
         go t ih =
             let o' = moved (x ∷ l) m t.2 o in
-            ap (f x) (ih (t.0 ++ t.1) (rest x l t.0 t.1 o') s) ∙ sym (against-first x l t.0 t.1 o' s) ∙ ap (λ m. against m s) (sym t.2)
+            ap (f x) (ih (t.0 ++ t.1) (rest x l t.0 t.1 o') s) ∙ sym (against_first x l t.0 t.1 o' s) ∙ ap (λ m. against m s) (sym t.2)
 
     -- as loops over the lists' places
     module _ (l m : List ℕ) (o : Orders l m) (s : A) where
-      pub up-order : up (λ k. f (get_or l k 0)) (length l) s ≡ up (λ k. f (get_or m k 0)) (length m) s
-      up-order = up_forth l s ∙ any_order l m o s ∙ sym (up_forth m s)
+      pub up_order : up (λ k. f (get_or l k 0)) (length l) s ≡ up (λ k. f (get_or m k 0)) (length m) s
+      up_order = up_forth l s ∙ any_order l m o s ∙ sym (up_forth m s)
 
-      pub down-order : down (λ k. f (get_or l k 0)) (length l) s ≡ down (λ k. f (get_or m k 0)) (length m) s
-      down-order = down_against l s ∙ any_order_against l m o s ∙ sym (down_against m s)
+      pub down_order : down (λ k. f (get_or l k 0)) (length l) s ≡ down (λ k. f (get_or m k 0)) (length m) s
+      down_order = down_against l s ∙ any_order_against l m o s ∙ sym (down_against m s)
 
 -- lists of the same numbers are as long
 pub same_length : (l m : List ℕ) → ((c : ℕ) → hits l c ≡ hits m c) → length l ≡ length m

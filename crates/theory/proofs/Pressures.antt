@@ -91,19 +91,19 @@ module _ (k : Cast) (x : List Float) where
 
     -- ---- where the test passes
     module _ (t : Settings) (passing : passes k t x ≡ true) where
-      pub worst-passes : worst k (rounded k x) ≤ t.tolerance
+      pub worst_passes : worst k (rounded k x) ≤ t.tolerance
       unfolding passes
-      worst-passes = leb→le (worst k (rounded k x)) t.tolerance (and_r (not (any is_refused (ticks k x))) (leb (worst k (rounded k x)) t.tolerance) (so passing))
+      worst_passes = leb→le (worst k (rounded k x)) t.tolerance (and_r (not (any is_refused (ticks k x))) (leb (worst k (rounded k x)) t.tolerance) (so passing))
 
-      none-refused : (c : ℕ) → c < cells k.sides → T (not (is_refused (at_cell c)))
+      none_refused : (c : ℕ) → c < cells k.sides → T (not (is_refused (at_cell c)))
       unfolding passes
-      none-refused c l = not_T (is_refused (at_cell c)) (λ r. T_not (any is_refused (ticks k x))
+      none_refused c l = not_T (is_refused (at_cell c)) (λ r. T_not (any is_refused (ticks k x))
           (and_l (not (any is_refused (ticks k x))) (leb (worst k (rounded k x)) t.tolerance) (so passing))
           (any_in is_refused (ticks k x) (get_or (ticks k x) c (Whole (pos 0))) (mem_get_or (ticks k x) c (Whole (pos 0)) (omega (arith, length_ticks))) (rw (ticks_at c l) r)))
 
-      pub air-rounded : (c : ℕ) → label_at k.labels c ≡ 0 → nat_abs (field (rounded k x) c) ≤ 2 ^ 41
+      pub air_rounded : (c : ℕ) → label_at k.labels c ≡ 0 → nat_abs (field (rounded k x) c) ≤ 2 ^ 41
       unfolding at_cell
-      air-rounded c e =
+      air_rounded c e =
           let l = in_box_lem (cells k.sides) k.labels sized c (omega arith) in
           let is : at_cell c ≡ tick (value x c) = ap (λ b. cond b (tick (value x c)) (Whole (level k.labels k.values c))) (is_true (is_air k.labels c) (air_test k.labels c e)) in
-          rw (rounded_at c l ∙ ap whole_of is) (tick_within (value x c) (rw is at (none-refused c l)))
+          rw (rounded_at c l ∙ ap whole_of is) (tick_within (value x c) (rw is at (none_refused c l)))

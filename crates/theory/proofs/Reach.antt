@@ -55,9 +55,9 @@ unfolding label_at
 in_box_lem n ls e i h = ⊎_elim (λ o. absurd (omega (arith, h, get_or-eq_default ls 2 {n = i} (omega arith)))) (λ l. l) (le_or_lt n i)
 
 -- ---- what is found, by cases
-pub found-cases {ℓ} : {X : Type ℓ} (f : Found) → ((d : ℕ) → f ≡ At d → X) → (f ≡ Nowhere → X) → X
-found-cases Nowhere g h = h refl
-found-cases (At d) g h = g d refl
+pub found_cases {ℓ} : {X : Type ℓ} (f : Found) → ((d : ℕ) → f ≡ At d → X) → (f ≡ Nowhere → X) → X
+found_cases Nowhere g h = h refl
+found_cases (At d) g h = g d refl
 
 pub never : {f : Found} {d : ℕ} → f ≡ Nowhere → f ≡ At d → ⊥
 never p q = let z : ◌≡◌ {A = ℕ} 0 1 = cc in omega arith
@@ -182,7 +182,7 @@ module _ (s : Sides) (ls : List ℕ) where
   module _ (sized : length ls ≡ cells s) where
     reached : (k i j : ℕ) → label_at ls i ≡ 0 → Beside s i j → T (is_at (known k j)) → (d : ℕ) × (d ≤ suc k) × (known (suc k) i ≡ At d)
     unfolding nearer
-    reached k i j a b t = found-cases (known k i)
+    reached k i j a b t = found_cases (known k i)
         (λ d e. (d, omega (arith, bounded k i d e), stays k i d e))
         (λ e. (suc k, omega arith, known_suc k i (in_box_lem (cells s) ls sized i (omega arith)) ∙ ap₂ (λ x f. nearer x k f) near e))
       where
@@ -241,14 +241,14 @@ module _ (s : Sides) (ls : List ℕ) where
   enough k i l t = ⊎_elim
       (λ r. let j = r.0 in
       ⊎_elim
-      (λ e. rw (← at-round j r.2 (cells s) (omega (arith, r.1))) at (rw (at-round j r.2 k e) at t))
+      (λ e. rw (← at_round j r.2 (cells s) (omega (arith, r.1))) at (rw (at_round j r.2 k e) at t))
       (λ e. near_later k (cells s) i (omega (arith, r.1)) t)
       (le_or_lt j k))
       (λ h. absurd (omega (arith, h, count_le (cells s) (near (suc (cells s))))))
       (progress (suc (cells s)))
     where
-      at-round : (j : ℕ) → ((i : ℕ) → i < cells s → near (suc j) i ≡ near j i) → (r : ℕ) → j ≤ r → near r i ≡ near j i
-      at-round j h r g = ap (λ x. near x i) whole ∙ settled j h (r - j) i l
+      at_round : (j : ℕ) → ((i : ℕ) → i < cells s → near (suc j) i ≡ near j i) → (r : ℕ) → j ≤ r → near r i ≡ near j i
+      at_round j h r g = ap (λ x. near x i) whole ∙ settled j h (r - j) i l
         where
           whole : r ≡ r - j + j
           whole = omega arith

@@ -83,14 +83,14 @@ module _ (n : ℕ) (w : ℕ → ℕ → ℕ) (w-sym : (i j : ℕ) → i < n → 
       → ((i j : ℕ) → i < n → j < n → T (G i) → T (not (G j)) → 1 ≤ w i j → e j ≤ℤ pos 0)
       → {i k : ℕ} → Way n w G i k → e i ≤ℤ pos (k * (m * worth n w G s p))
   unfolding spread worth
-  part e he edge' {i} {k} r = ≤ℤ-trans (by_way n w w-sym G e edge' r) (rw spread-is (z_le (search lin) (omega arith)))
+  part e he edge' {i} {k} r = ≤ℤ-trans (by_way n w w-sym G e edge' r) (rw spread_is (z_le (search lin) (omega arith)))
     where
       one : (b : Bool) (x : ℤ) (y : ℕ) → (T b → nat_abs x ≡ m * y) → keep b (size x) ≡ pos (m * keep_n b y)
       one true x y h = ap pos (h tt)
       one false x y h = ap pos (omega arith)
 
-      spread-is : sum n (λ i. keep (G i) (size (lap n w e i))) ≡ pos (m * total n (λ j. keep_n (G j) (nat_abs (resid n w s p j))))
-      spread-is =
+      spread_is : sum n (λ i. keep (G i) (size (lap n w e i))) ≡ pos (m * total n (λ j. keep_n (G j) (nat_abs (resid n w s p j))))
+      spread_is =
           sum_cong n (λ i. keep (G i) (size (lap n w e i))) (λ i. pos (m * keep_n (G i) (nat_abs (resid n w s p i)))) (λ i l. one (G i) (lap n w e i) (nat_abs (resid n w s p i)) (he i l))
           ∙ sum_pos n (λ i. m * keep_n (G i) (nat_abs (resid n w s p i)))
           ∙ ap pos (total_times n m (λ i. keep_n (G i) (nat_abs (resid n w s p i))))
@@ -113,11 +113,11 @@ module _ (n : ℕ) (w : ℕ → ℕ → ℕ) (w-sym : (i j : ℕ) → i < n → 
       turn : (a b : ℤ) → pos m *ᶻ a -ᶻ pos m *ᶻ b ≡ neg (pos m *ᶻ (b -ᶻ a))
       turn a b = let A = at a in let B = at b in z_eq (search lin) (omega arith)
 
-      lap-is : (i : ℕ) → i < n → T (G i) → lap n w d i ≡ neg (pos m *ᶻ (s i -ᶻ lap n w p i))
-      lap-is i l g = lap_lin n w m p y i ∙ rw (← exact i l g) (turn (lap n w p i) (s i))
+      lap_is : (i : ℕ) → i < n → T (G i) → lap n w d i ≡ neg (pos m *ᶻ (s i -ᶻ lap n w p i))
+      lap_is i l g = lap_lin n w m p y i ∙ rw (← exact i l g) (turn (lap n w p i) (s i))
 
       size_is : (i : ℕ) → i < n → T (G i) → nat_abs (lap n w d i) ≡ m * nat_abs (s i -ᶻ lap n w p i)
-      size_is i l g = ap nat_abs (lap-is i l g) ∙ abs_neg (pos m *ᶻ (s i -ᶻ lap n w p i)) ∙ abs_times m (s i -ᶻ lap n w p i)
+      size_is i l g = ap nat_abs (lap_is i l g) ∙ abs_neg (pos m *ᶻ (s i -ᶻ lap n w p i)) ∙ abs_times m (s i -ᶻ lap n w p i)
 
   -- with a bound on the walk's length, as the paper says it
   pub region_bound_d : (D : ℕ) {i k : ℕ} → Way n w G i k → k ≤ D → nat_abs (pos m *ᶻ p i -ᶻ y i) ≤ m * worth n w G s p * D

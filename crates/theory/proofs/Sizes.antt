@@ -27,9 +27,9 @@ sides_kept s e l = fits (sides_at s l) (fit_at s (fit s e) l)
 -- ---- (a - 1) * (y - 1) is not negative
 cross : (a y : ℕ) → 1 ≤ a → 1 ≤ y → a + y ≤ a * y + 1
 cross (suc a) (suc y) p q = omega arith
-
 cross zero y p q = elim p [ ]
 cross (suc a) zero p q = elim q [ ]
+
 -- a side more: from 2 x ≤ y + 1 to the same of h x and a y, where h is half of a, rounded up
 side : (a h x y : ℕ) → 1 ≤ a → 1 ≤ y → h * 2 ≤ a + 1 → x * 2 ≤ y + 1 → h * x * 2 ≤ a * y + 1
 side a h x y p q f g =

@@ -23,7 +23,7 @@ use Rattle.theory.specs.Waves.{strung, on_wave, wave_cell, wave_line, wave_of, w
 use Rattle.theory.proofs.Hits.{same_yes, same_no, hits}
 use Rattle.theory.specs.Sides.{x_axis, y_axis, z_axis}
 use Rattle.theory.proofs.Places.{Spot, spot_of, spot_lt, x_along, y_along, z_along, Face, beside_near}
-use Rattle.theory.proofs.Orders.{hits_append, hits_at, Sorted, sorted_append, Orders, up-order, down-order, same_length}
+use Rattle.theory.proofs.Orders.{hits_append, hits_at, Sorted, sorted_append, Orders, up_order, down_order, same_length}
 use Rattle.theory.proofs.Relaxed.{relaxed_swap}
 
 -- the wave of a cell
@@ -241,7 +241,7 @@ module _ (s : Sides) (ls : List ℕ) (at : ℕ → Bool) (b : List Float) (p : �
   waves_order = record {
     sorted = chosen_sorted p (cells s);
     sorted' = waves_sorted s p;
-    same-hits = waves_chosen s p;
+    same_hits = waves_chosen s p;
     swaps = λ x y h k a d.
         let l = chosen_hit p (cells s) x h in
         let m = chosen_hit p (cells s) y k in
@@ -250,8 +250,8 @@ module _ (s : Sides) (ls : List ℕ) (at : ℕ → Bool) (b : List Float) (p : �
 
   pub wave_up : (u : List Float)
       → up (λ k. relaxed s ls at b (get_or (waves s p) k 0)) (length (waves s p)) u ≡ up (λ k. relaxed s ls at b (get_or (chosen p (cells s)) k 0)) (length (chosen p (cells s))) u
-  wave_up u = sym (up-order (relaxed s ls at b) (λ c. c) (wave s) (chosen p (cells s)) (waves s p) waves_order u)
+  wave_up u = sym (up_order (relaxed s ls at b) (λ c. c) (wave s) (chosen p (cells s)) (waves s p) waves_order u)
 
   pub wave_down : (u : List Float)
       → down (λ k. relaxed s ls at b (get_or (waves s p) k 0)) (length (waves s p)) u ≡ down (λ k. relaxed s ls at b (get_or (chosen p (cells s)) k 0)) (length (chosen p (cells s))) u
-  wave_down u = sym (down-order (relaxed s ls at b) (λ c. c) (wave s) (chosen p (cells s)) (waves s p) waves_order u)
+  wave_down u = sym (down_order (relaxed s ls at b) (λ c. c) (wave s) (chosen p (cells s)) (waves s p) waves_order u)

@@ -16,7 +16,7 @@ use Rattle.method.specs.Cast.{Cast, cells, label_at, is_air, judged, field, resi
 use Rattle.method.specs.declared.Settings.{Settings}
 use Rattle.method.specs.Rounds.{End, solved, failed, pass, fail, ending}
 use Rattle.theory.proofs.Ends.{Ended, passing, failing, ending_is}
-use Rattle.theory.proofs.Pressures.{worst-passes}
+use Rattle.theory.proofs.Pressures.{worst_passes}
 use Rattle.theory.proofs.Reach.{air_test, test_air}
 use Rattle.theory.proofs.Greatest.{greatest_all, greatest_attained}
 use Rattle.theory.proofs.Firsts.{FirstAt, Search, found, none, search_first}
@@ -99,5 +99,5 @@ end_worst k t n w ps sized e = go (ending_is k t)
     go : Ended k t (ending k t) → (w ≡ worst k ps) × (w ≤ t.tolerance)
     go (passing st q p) =
         let same = same_worst (sym e ∙ q) in
-        (same.0 ∙ ap (worst k) (sym same.1), omega (arith, same.0, worst-passes k st.x sized t p))
+        (same.0 ∙ ap (worst k) (sym same.1), omega (arith, same.0, worst_passes k st.x sized t p))
     go (failing num st l h q) = absurd (not_both (sym e ∙ q))

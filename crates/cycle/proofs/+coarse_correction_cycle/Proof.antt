@@ -4,7 +4,7 @@
 use mathlib.Core.Path.{refl, ◌∙◌}
 use native.Mathlib.Omega.{arith}
 use borrow.Author.Rules.{rules}
-use Rattle.cycle.proofs.Levels.{cycles, labels-few, level-asked, air_listed, band-listed, cleared, cleared_end, stroke_end, corrected_end, level_end, same_ready, all_air, corrected-quiet, two_levels, two_rooms, lent_ready, lent_end, home_room, home_quiet, corrected_is, cycle-more}
+use Rattle.cycle.proofs.Levels.{cycles, labels_few, level_asked, air_listed, band_listed, cleared, cleared_end, stroke_end, corrected_end, level_end, same_ready, all_air, corrected_quiet, two_levels, two_rooms, lent_ready, lent_end, home_room, home_quiet, corrected_is, cycle_more}
 use Prim.Native.Nat.{ℕ, ◌+◌, ◌-◌, ◌<◌}
 use borrow.Fn.Kinds.{In}
 use borrow.Fn.PlainCycle.{Measures, is, falls, and}
@@ -133,7 +133,7 @@ coarse-correction-mul-start t c =
     let start = at-lower.before.before.before.before.before.before.before.before.before.before in
     let g = at-lower.before.before.before.before.before.before.sides-at in
     let ls = at-lower.before.before.before.before.level-labels in
-    let few = labels-few start.requires.1.0 g.ensures ls.ensures in
+    let few = labels_few start.requires.1.0 g.ensures ls.ensures in
     search rules
 
 coarse-correction-mul-cycle : (t : ℕ) → coarse-correction-lts.Need-overflow-mul-cycle (cc-calls t) (coarse-correction-at t) coarse-correction.Post
@@ -142,7 +142,7 @@ coarse-correction-mul-cycle t c =
     let start = at-lower.before.before.before.before.before.before.before.before.before.before in
     let g = at-lower.before.before.before.before.before.before.sides-at in
     let ls = at-lower.before.before.before.before.level-labels in
-    let few = labels-few start.requires.1.0 g.ensures ls.ensures in
+    let few = labels_few start.requires.1.0 g.ensures ls.ensures in
     search rules
 
 coarse-correction-sub-cycle : (t : ℕ) → coarse-correction-lts.Need-overflow-sub-cycle (cc-calls t) (coarse-correction-at t) coarse-correction.Post
@@ -221,7 +221,7 @@ cycle-coarsest-requires t c κs =
     let ca = at_clear.before.before.level-air in
     let cleared-long = at_clear.clear-u.auto.0 in
     let zero = cleared_end start.requires.1.0 g.ensures _ _ refl start.requires.1.1 at_clear.clear-u.ensures in
-    (level-asked start.requires.1.0 g.ensures ls.ensures _ cleared-long, (level_end start.requires.1.0 g.ensures zero, (air_listed start.requires.1.0 g.ensures ls.ensures cs.ensures c.before.if1.false, cleared start.requires.1.0 g.ensures _ _ refl at_clear.clear-u.ensures)))
+    (level_asked start.requires.1.0 g.ensures ls.ensures _ cleared-long, (level_end start.requires.1.0 g.ensures zero, (air_listed start.requires.1.0 g.ensures ls.ensures cs.ensures c.before.if1.false, cleared start.requires.1.0 g.ensures _ _ refl at_clear.clear-u.ensures)))
 
 cycle-downstroke-requires : (t : ℕ) → cycle-lts.Need-downstroke-requires (cy-calls t) (cycle-at t) cycle.Post
 cycle-downstroke-requires t c κs =
@@ -233,7 +233,7 @@ cycle-downstroke-requires t c κs =
     let ca = at_clear.before.before.level-air in
     let cleared-long = at_clear.clear-u.auto.0 in
     let zero = cleared_end start.requires.1.0 g.ensures _ _ refl start.requires.1.1 at_clear.clear-u.ensures in
-    (search rules, (level-asked start.requires.1.0 g.ensures ls.ensures _ cleared-long, (level_end start.requires.1.0 g.ensures zero, (band-listed start.requires.1.0 g.ensures ls.ensures cs.ensures c.before.if1.true, (all_air start.requires.1.0 g.ensures ls.ensures ca.ensures, cleared start.requires.1.0 g.ensures _ _ refl at_clear.clear-u.ensures)))))
+    (search rules, (level_asked start.requires.1.0 g.ensures ls.ensures _ cleared-long, (level_end start.requires.1.0 g.ensures zero, (band_listed start.requires.1.0 g.ensures ls.ensures cs.ensures c.before.if1.true, (all_air start.requires.1.0 g.ensures ls.ensures ca.ensures, cleared start.requires.1.0 g.ensures _ _ refl at_clear.clear-u.ensures)))))
 
 cycle-coarse-correction-requires : (t : ℕ) → cycle-lts.Need-coarse-correction-requires (cy-calls t) (cycle-at t) cycle.Post
 cycle-coarse-correction-requires t c κs =
@@ -257,7 +257,7 @@ cycle-upstroke-requires t c κs =
     let zero = cleared_end start.requires.1.0 g.ensures _ _ refl start.requires.1.1 at_clear.clear-u.ensures in
     let zero-then = stroke_end start.requires.1.0 g.ensures _ _ _ zero c.before.before.before.before.before.before.before.downstroke.ensures in
     let zero-last = corrected_end start.requires.1.0 _ _ zero-then c.before.before.before.coarse-correction.ensures in
-    (search rules, (level-asked start.requires.1.0 g.ensures ls.ensures _ (c.before.before.before.coarse-correction.auto.0 ∙ c.before.before.before.before.before.before.before.downstroke.auto.0 ∙ cleared-long), (level_end start.requires.1.0 g.ensures zero-last, (band-listed start.requires.1.0 g.ensures ls.ensures cs.ensures c.before.before.before.before.before.before.before.before.before.if1.true, (all_air start.requires.1.0 g.ensures ls.ensures ca.ensures, corrected-quiet start.requires.1.0 g.ensures ls.ensures _ _ c.before.before.before.coarse-correction.ensures)))))
+    (search rules, (level_asked start.requires.1.0 g.ensures ls.ensures _ (c.before.before.before.coarse-correction.auto.0 ∙ c.before.before.before.before.before.before.before.downstroke.auto.0 ∙ cleared-long), (level_end start.requires.1.0 g.ensures zero-last, (band_listed start.requires.1.0 g.ensures ls.ensures cs.ensures c.before.before.before.before.before.before.before.before.before.if1.true, (all_air start.requires.1.0 g.ensures ls.ensures ca.ensures, corrected_quiet start.requires.1.0 g.ensures ls.ensures _ _ c.before.before.before.coarse-correction.ensures)))))
 
 cycle-same-length : (t : ℕ) → cycle-lts.Need-same-length (cy-calls t) (cycle-at t) cycle.Post
 cycle-same-length t c = search cycles
@@ -270,7 +270,7 @@ cycle-returns t c =
     let ls = at_clear.before.before.before.before.level-labels in
     let cs = at_clear.before.before.before.level-list in
     let ca = at_clear.before.before.level-air in
-    cycle-more start.requires.1.0 g.ensures ls.ensures cs.ensures _ _ _ _ _ refl c.before.before.before.before.before.before.before.before.before.before.before.before.if1.true at_clear.clear-u.ensures c.before.before.before.before.before.before.before.before.before.before.downstroke.ensures c.before.before.before.before.before.before.coarse-correction.ensures c.before.before.upstroke.ensures
+    cycle_more start.requires.1.0 g.ensures ls.ensures cs.ensures _ _ _ _ _ refl c.before.before.before.before.before.before.before.before.before.before.before.before.if1.true at_clear.clear-u.ensures c.before.before.before.before.before.before.before.before.before.before.downstroke.ensures c.before.before.before.before.before.before.coarse-correction.ensures c.before.before.upstroke.ensures
 
 cycle-same-length-2 : (t : ℕ) → cycle-lts.Need-same-length-2 (cy-calls t) (cycle-at t) cycle.Post
 cycle-same-length-2 t c = search cycles

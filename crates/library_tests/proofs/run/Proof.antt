@@ -1,7 +1,7 @@
 -- `library_tests::run` meets its contract, by the contracts of its calls. Assumes nothing.
 use mathlib.Core.Path.{refl}
 use lib.ListN.{length}
-use Rattle.library_tests.proofs.Laws.{running, run-ready, run_end, run_is}
+use Rattle.library_tests.proofs.Laws.{running, run_ready, run_end, run_is}
 use Rattle.library_tests.proofs.run.Statement.{statement}
 use Rattle.library_tests.proofs.run.Tie as tie
 
@@ -25,7 +25,7 @@ cycles-requires c κs =
     let laid = filled.before.before in
     let start = laid.before.before.before.before.before in
     let a = start.args in
-    (run-ready a.g a.count a.labels.now a.bytes.now a.words.now (length a.room.now) start.requires _ laid.levels-of.ensures _ filled.all-labels.ensures filled.all-labels.auto.0 _ _ listed.all-lists.auto.0 listed.all-lists.ensures ended.end-in-zero.new.0 ended.end-in-zero.auto.0, run_end a.g a.count a.labels.now a.bytes.now a.words.now (length a.room.now) start.requires _ laid.levels-of.ensures a.room.now ended.end-in-zero.new.0 refl ended.end-in-zero.ensures)
+    (run_ready a.g a.count a.labels.now a.bytes.now a.words.now (length a.room.now) start.requires _ laid.levels-of.ensures _ filled.all-labels.ensures filled.all-labels.auto.0 _ _ listed.all-lists.auto.0 listed.all-lists.ensures ended.end-in-zero.new.0 ended.end-in-zero.auto.0, run_end a.g a.count a.labels.now a.bytes.now a.words.now (length a.room.now) start.requires _ laid.levels-of.ensures a.room.now ended.end-in-zero.new.0 refl ended.end-in-zero.ensures)
 
 same_length : tie.Need-same-length
 same_length c = search running

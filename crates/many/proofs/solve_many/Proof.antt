@@ -3,7 +3,7 @@ use lib.ListN.{length}
 use mathlib.Core.Path.{◌∙◌}
 use native.Mathlib.Omega.{arith}
 use borrow.Rule.Slice.PartMut.{same_len_mid}
-use Rattle.many.proofs.ManySolving.{many_solves, known, checked, clear-asked, solved-is}
+use Rattle.many.proofs.ManySolving.{many_solves, known, checked, clear_asked, solved_is}
 use borrow.Author.Rules.{rules}
 use Rattle.many.proofs.solve_many.Statement.{statement}
 use Rattle.many.proofs.solve_many.Tie as tie
@@ -115,7 +115,7 @@ clear-requires c κs =
     let k =
     known start.args.sides start.args.labels.now start.args.settings start.args.sets start.args.values.now start.args.pressures.now start.args.answers.now start.args.bytes.now start.args.floats.now start.args.words.now
     _ told.before.before.judge.ensures told.enum_told.given.1 in
-    clear-asked _ _ _ _ _ _ _ _ _ _ k work.work.new.1.1.1.1.1.1.1.0 work.work.new.1.1.1.1.1.1.1.1.0 work.work.new.1.1.1.1.1.1.1.1.1.0 work.work.auto.1.1.1.1.1.1.1.0 work.work.auto.1.1.1.1.1.1.1.1.0 work.work.auto.1.1.1.1.1.1.1.1.1.0
+    clear_asked _ _ _ _ _ _ _ _ _ _ k work.work.new.1.1.1.1.1.1.1.0 work.work.new.1.1.1.1.1.1.1.1.0 work.work.new.1.1.1.1.1.1.1.1.1.0 work.work.auto.1.1.1.1.1.1.1.0 work.work.auto.1.1.1.1.1.1.1.1.0 work.work.auto.1.1.1.1.1.1.1.1.1.0
 
 returns : tie.Need-returns
 returns c = search many_solves
@@ -156,7 +156,7 @@ returns-2 c =
     let k =
     known start.args.sides start.args.labels.now start.args.settings start.args.sets start.args.values.now start.args.pressures.now start.args.answers.now start.args.bytes.now start.args.floats.now start.args.words.now
     _ told.before.before.judge.ensures told.enum_told.given.1 in
-    solved-is _ _ _ _ _ _ _ _ _ _ k work.work.new.1.1.1.1.1.1.1.0 work.work.new.1.1.1.1.1.1.1.1.0 work.work.new.1.1.1.1.1.1.1.1.1.0 work.work.auto.1.1.1.1.1.1.1.0 work.work.auto.1.1.1.1.1.1.1.1.0 work.work.auto.1.1.1.1.1.1.1.1.1.0 _ _ _ _ _ _ work.work.ensures end.clear.ensures.0 end.clear.ensures.1.0 end.clear.ensures.1.1
+    solved_is _ _ _ _ _ _ _ _ _ _ k work.work.new.1.1.1.1.1.1.1.0 work.work.new.1.1.1.1.1.1.1.1.0 work.work.new.1.1.1.1.1.1.1.1.1.0 work.work.auto.1.1.1.1.1.1.1.0 work.work.auto.1.1.1.1.1.1.1.1.0 work.work.auto.1.1.1.1.1.1.1.1.1.0 _ _ _ _ _ _ work.work.ensures end.clear.ensures.0 end.clear.ensures.1.0 end.clear.ensures.1.1
 
 pub solve-many-spec : {M : Type 1} → statement M
 solve-many-spec =

@@ -5,7 +5,7 @@ use borrow.Author.Rules.{rules}
 use lib.ListN.{length}
 use Rattle.rounds.specs.Rounds.{Calm}
 use Rattle.rounds.proofs.Calm.{scaled_calm, scaled_t, advanced_calm, go_finite}
-use Rattle.rounds.proofs.Budget.{Left, budget, left-stall, left_more, held_ready}
+use Rattle.rounds.proofs.Budget.{Left, budget, left_stall, left_more, held_ready}
 use Rattle.rounds.proofs.rounds.Statement.{statement}
 use Rattle.rounds.proofs.rounds.Tie as tie
 
@@ -57,7 +57,7 @@ returns-2 c =
     let tested = scaled.before.before.before.before in
     let loop = tested.before.before.before.before in
     let start = loop.before.before.before.before.before in
-    left-stall _ _ _ _ _ _ _ _ loop.loop.invariant.1.1.1 _ tested.test-x.ensures _ _ _ _ start.requires.0 tested.before.before.if1.true scaled.before.before.enum_told.given.1 _ _ scaled.scalars-of.ensures _ stepped.step_of_lem.ensures _ _ c.enum-told2.given.1 refl
+    left_stall _ _ _ _ _ _ _ _ loop.loop.invariant.1.1.1 _ tested.test-x.ensures _ _ _ _ start.requires.0 tested.before.before.if1.true scaled.before.before.enum_told.given.1 _ _ scaled.scalars-of.ensures _ stepped.step_of_lem.ensures _ _ c.enum-told2.given.1 refl
 
 enum-known-alpha : tie.Need-enum-known-alpha invariant-loop decreases-loop
 enum-known-alpha c = search budget

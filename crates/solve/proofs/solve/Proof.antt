@@ -1,6 +1,6 @@
 use Prim.Native.Nat.{◌≤◌}
 use native.Mathlib.Omega.{arith}
-use Rattle.solve.proofs.Solving.{solves, known, checked, clear-asked, solved-is}
+use Rattle.solve.proofs.Solving.{solves, known, checked, clear_asked, solved_is}
 use borrow.Author.Rules.{rules}
 use Rattle.solve.proofs.solve.Statement.{statement}
 use Rattle.solve.proofs.solve.Tie as tie
@@ -88,7 +88,7 @@ clear-requires c κs =
     let work = c.before.before.before.before.before.before.before.before.before.before in
     let told = work.before.before.before.before.before in
     let k = known _ _ _ _ _ _ _ _ _ told.before.before.judge.ensures told.enum_told.given.1 in
-    clear-asked _ _ _ _ _ _ _ _ k work.work.new.1.1.1.1.1.0 work.work.new.1.1.1.1.1.1.0 work.work.new.1.1.1.1.1.1.1.0 work.work.auto.1.1.1.1.1.0 work.work.auto.1.1.1.1.1.1.0 work.work.auto.1.1.1.1.1.1.1.0
+    clear_asked _ _ _ _ _ _ _ _ k work.work.new.1.1.1.1.1.0 work.work.new.1.1.1.1.1.1.0 work.work.new.1.1.1.1.1.1.1.0 work.work.auto.1.1.1.1.1.0 work.work.auto.1.1.1.1.1.1.0 work.work.auto.1.1.1.1.1.1.1.0
 
 same_length : tie.Need-same-length
 same_length c = search rules
@@ -123,7 +123,7 @@ returns-2 c =
     let work = end.before.before.before.before.before.before.before.before.before.before.before in
     let told = work.before.before.before.before.before in
     let k = known _ _ _ _ _ _ _ _ _ told.before.before.judge.ensures told.enum_told.given.1 in
-    solved-is _ _ _ _ _ _ _ _ k work.work.new.1.1.1.1.1.0 work.work.new.1.1.1.1.1.1.0 work.work.new.1.1.1.1.1.1.1.0 work.work.auto.1.1.1.1.1.0 work.work.auto.1.1.1.1.1.1.0 work.work.auto.1.1.1.1.1.1.1.0 _ _ _ _ _ work.work.ensures end.clear.ensures.0 end.clear.ensures.1.0 end.clear.ensures.1.1
+    solved_is _ _ _ _ _ _ _ _ k work.work.new.1.1.1.1.1.0 work.work.new.1.1.1.1.1.1.0 work.work.new.1.1.1.1.1.1.1.0 work.work.auto.1.1.1.1.1.0 work.work.auto.1.1.1.1.1.1.0 work.work.auto.1.1.1.1.1.1.1.0 _ _ _ _ _ work.work.ensures end.clear.ensures.0 end.clear.ensures.1.0 end.clear.ensures.1.1
 
 pub solve-spec : {M : Type 1} → statement M
 solve-spec =

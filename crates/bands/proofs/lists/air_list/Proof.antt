@@ -1,6 +1,6 @@
 -- `bands::lists::air_list` meets its contract. Assumes nothing.
 use native.Mathlib.Omega.{arith}
-use Rattle.bands.proofs.Chosen.{airs, air-count}
+use Rattle.bands.proofs.Chosen.{airs, air_count}
 use Rattle.bands.proofs.lists.air_list.Statement.{statement}
 use Rattle.bands.proofs.lists.air_list.Tie as tie
 
@@ -19,7 +19,7 @@ add-t12 c =
     let first = got.before.before.before.before in
     let start = first.before.before.before.before in
     let a = start.args in
-    omega (arith, air-count a.band a.g a.labels.now a.at _ a.words.now _ start.requires.1 first.wave-list.ensures _ _ got.left-list.ensures)
+    omega (arith, air_count a.band a.g a.labels.now a.at _ a.words.now _ start.requires.1 first.wave-list.ensures _ _ got.left-list.ensures)
 
 same_length : tie.Need-same-length
 same_length c = search airs

@@ -1,6 +1,6 @@
 -- `old_read::judge::judge_sizes` meets its contract: each return by the tests that led there. Assumes nothing.
 use borrow.Author.Tests.{not-false}
-use Rattle.old_read.proofs.JudgeLaws.{sizes, sizes-2}
+use Rattle.old_read.proofs.JudgeLaws.{sizes, sizes_2}
 use Rattle.old_read.proofs.judge.judge_sizes.Statement.{statement}
 use Rattle.old_read.proofs.judge.judge_sizes.Tie as tie
 
@@ -23,7 +23,7 @@ returns-3 : tie.Need-returns-3
 returns-3 c =
     let counted = c.before.before in
     let start = counted.before.before.before in
-    sizes-2 start.args.sides start.args.unit start.args.left start.args.room start.args.settings _ counted.before.before.fit_sides.ensures
+    sizes_2 start.args.sides start.args.unit start.args.left start.args.room start.args.settings _ counted.before.before.fit_sides.ensures
     (not-false _ counted.before.if1.false) _ counted.cell-count.ensures.0 c.before.if2.false c.if3.true
 
 limits-fit-requires : tie.Need-limits-fit-requires

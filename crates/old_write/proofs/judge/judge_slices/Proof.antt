@@ -1,6 +1,6 @@
 -- `old_write::judge::judge_slices` meets its contract: 2 before 4, 5 and 13. Assumes nothing.
 use borrow.Author.Tests.{not-false}
-use Rattle.old_write.proofs.WriteLaws.{slices, slices-cells}
+use Rattle.old_write.proofs.WriteLaws.{slices, slices_cells}
 use Rattle.old_write.proofs.judge.judge_slices.Statement.{statement}
 use Rattle.old_write.proofs.judge.judge_slices.Tie as tie
 
@@ -30,7 +30,7 @@ returns-2 c =
     let found = c.before.before in
     let counted = found.before.before in
     let start = counted.before.before.before.before in
-    slices-cells start.args.sides start.args.unit _ _ start.args.room _ counted.before.before.lengths_fit_lem.ensures (not-false _ counted.before.if1.false) _ counted.cell-count.ensures.0 _ _ _ _
+    slices_cells start.args.sides start.args.unit _ _ start.args.room _ counted.before.before.lengths_fit_lem.ensures (not-false _ counted.before.if1.false) _ counted.cell-count.ensures.0 _ _ _ _
     c.earlier.ensures found.before.judge-cells.ensures c.before.ruled.ensures found.first-inexpressible.ensures
 
 pub judge-slices-spec : {M : Type 1} → statement M

@@ -1,0 +1,29 @@
+-- `levels::labels::copy` meets its contract: the first i labels are copied. Assumes nothing.
+use Prim.Native.Nat.{◌≤◌, ◌-◌}
+use lib.ListN.{length}
+use Rattle.levels.proofs.Labelled.{Copied, copies}
+use Rattle.levels.proofs.labels.copy.Goals as goal
+
+pub loop-i-init : goal.loop-i-init
+loop-i-init c = search copies
+
+pub bounds-labels-i : goal.bounds-labels-i
+bounds-labels-i c = search copies
+
+pub bounds-bytes-i : goal.bounds-bytes-i
+bounds-bytes-i c = search copies
+
+pub overflow_add-i : goal.overflow_add-i
+overflow_add-i c = search copies
+
+pub loop-i-smaller : goal.loop-i-smaller
+loop-i-smaller c = search copies
+
+pub loop-i-preserved : goal.loop-i-preserved
+loop-i-preserved c = search copies
+
+pub shape_of-bytes : goal.shape_of-bytes
+shape_of-bytes c = search copies
+
+pub returns : goal.returns
+returns c = search copies

@@ -1,0 +1,36 @@
+-- `smooth::clear_from` meets its contract: after c turns the room is c stores on. Assumes nothing.
+use Prim.Native.Nat.{◌≤◌, ◌-◌}
+use mathlib.Core.Path.{◌≡◌}
+use lib.ListN.{length}
+use Rattle.laws.proofs.Loops.{Up}
+use Rattle.smooth.specs.Fields.{clear_from_turn}
+use Rattle.smooth.proofs.Fields.{fills}
+use Rattle.smooth.proofs.clear_from.Goals as goal
+
+pub loop-c-init : goal.loop-c-init
+loop-c-init c = search fills
+
+pub overflow_add-room : goal.overflow_add-room
+overflow_add-room c = search fills
+
+pub offset_bounds-room-from : goal.offset_bounds-room-from
+offset_bounds-room-from c = search fills
+
+pub bounds-room-from : goal.bounds-room-from
+bounds-room-from c = search fills
+
+pub overflow_add-c : goal.overflow_add-c
+overflow_add-c c = search fills
+
+pub loop-c-smaller : goal.loop-c-smaller
+loop-c-smaller c = search fills
+
+pub loop-c-preserved : goal.loop-c-preserved
+unfolding lib.Ieee.of_bits
+loop-c-preserved c = search fills
+
+pub shape_of-room : goal.shape_of-room
+shape_of-room c = search fills
+
+pub returns : goal.returns
+returns c = search fills

@@ -1,0 +1,15 @@
+-- `text_out::put_line` meets its contract. Assumes nothing.
+use Rattle.text_out.proofs.PutLaws.{lines}
+use Rattle.text_out.proofs.put_line.Goals as goal
+
+-- LOST slice-aggregate-put-number
+-- search lines
+
+pub put_number-requires : goal.put_number-requires
+put_number-requires c = search lines
+
+pub shape_of-output : goal.shape_of-output
+shape_of-output c = search lines
+
+pub returns : goal.returns
+returns c = search lines
