@@ -1,8 +1,7 @@
 -- `tick::tie_of` meets its contract, by the two laws of the rule for halves. Assumes nothing.
 use Rattle.std.proofs.Common.{rules}
 use Rattle.ticks.proofs.TickNear.{tie_even, tie_odd}
-use Rattle.ticks.proofs.tick.tie_of.Statement.{statement}
-use Rattle.ticks.proofs.tick.tie_of.Tie as tie-of
+use Rattle.ticks.proofs.tick.tie_of.Goals as goal
 
 add-result : tie-of.Need-add-result
 add-result c = search rules
