@@ -112,6 +112,8 @@ mid_value q h = go (round binary64 false q 1) (round_whole binary64 false q (ome
 
     go : (x : Float) → HasValue x false q 1 → HasValue (x ⊕ fin false 1 (negsuc 0)) false (q + q + 1) 2
     go (fin true m e) v = absurd (subst T v.0 tt)
+    go nan v = elim v [ ]
+    go (inf _) v = elim v [ ]
     go (fin false m e) v =
         let same : (m * up e * 2 + 1 * down e) * 2 ≡ (q + q + 1) * (down e * 2) =
         let w : m * up e ≡ q * down e = sym (mul-one (m * up e)) ∙ v.1 in
@@ -177,6 +179,8 @@ located (fin false m e) q a b c = go (mid q) (mid_value q (let s : q < 2 ^ 42 = 
   where
     go : (h : Float) → HasValue h false (q + q + 1) 2 → Located (fin false m e) q h
     go (fin true n d) v = no (sym v.0)
+    go nan v = elim v [ ]
+    go (inf _) v = elim v [ ]
     go (fin false n d) v = record {
       small = q_lt q m e b c;
       low = at_low q m e b c n d v;

@@ -1,0 +1,35 @@
+-- `bands::lists::keep_line` meets its contract: up to j the cells stand in the room. Assumes nothing.
+use Prim.Native.Nat.{◌≤◌, ◌-◌}
+use Rattle.theory.specs.Waves.{strung, wave_cell}
+use Rattle.grid.specs.Entries.{entry_of}
+use Rattle.bands.specs.Lists.{smoothed, Placed}
+use Rattle.bands.proofs.Chosen.{on_waves}
+use Rattle.bands.proofs.lists.keep_line.Goals as goal
+
+pub overflow_cast-n : goal.overflow_cast-n
+overflow_cast-n c = search on_waves
+
+pub loop-j-init : goal.loop-j-init
+loop-j-init c = search on_waves
+
+pub keep_at-next-requires : goal.keep_at-next-requires
+keep_at-next-requires c = record {
+    fit = search on_waves;
+    j_lt_ny = search on_waves;
+    j_in_bounds = search on_waves;
+  }
+
+pub overflow_add-j : goal.overflow_add-j
+overflow_add-j c = search on_waves
+
+pub loop-j-smaller : goal.loop-j-smaller
+loop-j-smaller c = search on_waves
+
+pub loop-j-preserved : goal.loop-j-preserved
+loop-j-preserved c = search on_waves
+
+pub shape_of-words : goal.shape_of-words
+shape_of-words c = search on_waves
+
+pub returns : goal.returns
+returns c = search on_waves

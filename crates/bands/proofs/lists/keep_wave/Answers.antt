@@ -1,0 +1,35 @@
+-- `bands::lists::keep_wave` meets its contract: up to k the lines stand in the room. Assumes nothing.
+use Prim.Native.Nat.{◌≤◌, ◌-◌}
+use Rattle.theory.specs.Waves.{strung, wave_line}
+use Rattle.grid.specs.Entries.{entry_of}
+use Rattle.bands.specs.Lists.{smoothed, Placed}
+use Rattle.bands.proofs.Chosen.{on_waves}
+use Rattle.bands.proofs.lists.keep_wave.Goals as goal
+
+pub overflow_cast-n : goal.overflow_cast-n
+overflow_cast-n c = search on_waves
+
+pub loop-k-init : goal.loop-k-init
+loop-k-init c = search on_waves
+
+pub keep_line-next-requires : goal.keep_line-next-requires
+keep_line-next-requires c = record {
+    fit = search on_waves;
+    k_lt_nz = search on_waves;
+    k_in_bounds = search on_waves;
+  }
+
+pub overflow_add-k : goal.overflow_add-k
+overflow_add-k c = search on_waves
+
+pub loop-k-smaller : goal.loop-k-smaller
+loop-k-smaller c = search on_waves
+
+pub loop-k-preserved : goal.loop-k-preserved
+loop-k-preserved c = search on_waves
+
+pub shape_of-words : goal.shape_of-words
+shape_of-words c = search on_waves
+
+pub returns : goal.returns
+returns c = search on_waves

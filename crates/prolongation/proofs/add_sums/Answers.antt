@@ -1,0 +1,28 @@
+-- `prolongation::add_sums` meets its contract: after c turns the first c cells are corrected. Assumes nothing.
+use Prim.Native.Nat.{◌≤◌, ◌-◌}
+use mathlib.Core.Path.{◌≡◌}
+use lib.ListN.{length}
+use Rattle.laws.proofs.Loops.{Up, ups}
+use Rattle.transfer.specs.Rows.{plus_step}
+use Rattle.prolongation.proofs.add_sums.Goals as goal
+
+pub loop-c-init : goal.loop-c-init
+loop-c-init c = search ups
+
+pub add_sum-requires : goal.add_sum-requires
+add_sum-requires c = search ups
+
+pub overflow_add-c : goal.overflow_add-c
+overflow_add-c c = search ups
+
+pub loop-c-smaller : goal.loop-c-smaller
+loop-c-smaller c = search ups
+
+pub loop-c-preserved : goal.loop-c-preserved
+loop-c-preserved c = search ups
+
+pub shape_of-room : goal.shape_of-room
+shape_of-room c = search ups
+
+pub returns : goal.returns
+returns c = search ups

@@ -1,0 +1,13 @@
+-- `restriction::draw_fine` meets its contract: the row is in the box where its first cell is. Assumes nothing.
+use borrow.Author.Rules.{rules}
+use Rattle.transfer.proofs.Sources.{spreads}
+use Rattle.restriction.proofs.draw_fine.Goals as goal
+
+pub draw_row-requires : goal.draw_row-requires
+draw_row-requires c = search spreads
+
+pub returns-then-at-n : goal.returns-then-at-n
+returns-then-at-n c = search spreads
+
+pub returns-else-at-n : goal.returns-else-at-n
+returns-else-at-n c = search spreads
