@@ -1,0 +1,13 @@
+-- `acceptance::refused_at` meets its contract: by the label and the tick. Assumes nothing.
+use borrow.Author.Rules.{rules}
+use Rattle.acceptance.proofs.Laws.{verdicts}
+use Rattle.acceptance.proofs.refused_at.Goals as goal
+
+pub returns-then-label_at-ne0 : goal.returns-then-label_at-ne0
+returns-then-label_at-ne0 c = search verdicts
+
+pub returns-in-Whole : goal.returns-in-Whole
+returns-in-Whole c = search verdicts
+
+pub returns-in-Refused : goal.returns-in-Refused
+returns-in-Refused c = search verdicts

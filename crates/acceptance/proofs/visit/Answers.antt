@@ -1,0 +1,25 @@
+-- `acceptance::visit` meets its contract: by the label. Assumes nothing.
+use Prim.Native.Nat.{◌+◌, ◌^◌, ◌≤◌, ◌<◌}
+use native.Mathlib.Omega.{arith}
+use borrow.Author.Rules.{rules}
+use lib.IntN.{nat_abs}
+use lib.ListN.{length}
+use Rattle.acceptance.proofs.Laws.{pressed}
+use Rattle.acceptance.proofs.visit.Goals as goal
+
+pub whole_at-requires : goal.whole_at-requires
+whole_at-requires c =
+    let k : c.label_at-label.result < 2 = omega arith in
+    let h : c.args.j < length c.args.labels.now = search pressed in
+    search rules
+
+pub plus-requires : goal.plus-requires
+plus-requires c =
+    let h : nat_abs c.args.a.sum + nat_abs c.whole_at.result < 2 ^ 63 = omega (arith, c.whole_at.ensures.small) in
+    search pressed
+
+pub returns-then-label-lt2 : goal.returns-then-label-lt2
+returns-then-label-lt2 c = let k : c.label_at-label.result < 2 = omega arith in search pressed
+
+pub returns-else-label-lt2 : goal.returns-else-label-lt2
+returns-else-label-lt2 c = let k : 2 ≤ c.label_at-label.result = omega arith in search pressed

@@ -1,0 +1,28 @@
+-- `acceptance::write_ticks` meets its contract: after c turns the first c pressures stand. Assumes nothing.
+use mathlib.Core.Path.{◌≡◌}
+use Prim.Native.Nat.{◌≤◌, ◌-◌}
+use lib.ListN.{length, length-set}
+use Rattle.laws.proofs.Loops.{Up, ups}
+use Rattle.acceptance.proofs.Laws.{writing, written}
+use Rattle.acceptance.proofs.write_ticks.Goals as goal
+
+pub loop-c-init : goal.loop-c-init
+loop-c-init c = search (ups, length-set)
+
+pub write_at-requires : goal.write_at-requires
+write_at-requires c = search (ups, length-set)
+
+pub overflow_add-c : goal.overflow_add-c
+overflow_add-c c = search (ups, length-set)
+
+pub loop-c-smaller : goal.loop-c-smaller
+loop-c-smaller c = search (ups, length-set)
+
+pub loop-c-preserved : goal.loop-c-preserved
+loop-c-preserved c = search (ups, length-set)
+
+pub shape_of-pressures : goal.shape_of-pressures
+shape_of-pressures c = search (ups, length-set)
+
+pub returns : goal.returns
+returns c = search (ups, written)
