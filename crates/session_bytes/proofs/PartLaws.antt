@@ -141,7 +141,7 @@ valued_more o vs old new next at i r q l h m p =
     let e : flat_map (value_written o) (take (i + 1) vs) ≡ flat_map (value_written o) (take i vs) ++ value_written o (get_or vs i (pos 0)) =
     ap (λ k. flat_map (value_written o) (take k vs)) (add-one i) ∙ ap (flat_map (value_written o)) (take-suc vs i (pos 0) l)
     ∙ flat_append (value_written o) (take i vs) (get_or vs i (pos 0) ∷ []) ∙ ap (λ x. flat_map (value_written o) (take i vs) ++ x) (flat_one (value_written o) (get_or vs i (pos 0))) in
-    let f : to_z w32 (of_z w32 (get_or vs i (pos 0))) ≡ get_or vs i (pos 0) = to_z-of_z (record { sfits = m }) in
+    let f : to_z w32 (of_z w32 (get_or vs i (pos 0))) ≡ get_or vs i (pos 0) = to_z-of_z {w = w32} (record { sfits = m }) in
     record { puts = rw e (put_then h.puts (rw f at p)) }
 
 pub valued_all : (o : Order) (vs : List ℤ) (old new : List ℕ) (at i r : ℕ) → length vs ≤ i → Valued o vs old at i new r → Put (flat_map (value_written o) vs) old at new r

@@ -1,0 +1,30 @@
+-- `old_read::values::bad_value` meets its contract: no value before c is bad. Assumes nothing.
+use Prim.Native.Nat.{◌≤◌, ◌-◌}
+use Rattle.theory.proofs.Firsts.{None}
+use Rattle.old_read.specs.OldBody.{bad_old_value}
+use Rattle.old_read.proofs.ValueLaws.{searching}
+use Rattle.old_read.proofs.values.bad_value.Goals as goal
+
+pub loop-c-init : goal.loop-c-init
+loop-c-init c = search searching
+
+pub bad_value_at-requires : goal.bad_value_at-requires
+bad_value_at-requires c = search searching
+
+pub overflow_cast-result : goal.overflow_cast-result
+overflow_cast-result c = search searching
+
+pub returns-then-bad_value_at : goal.returns-then-bad_value_at
+returns-then-bad_value_at c = search searching
+
+pub overflow_add-c : goal.overflow_add-c
+overflow_add-c c = search searching
+
+pub loop-c-smaller : goal.loop-c-smaller
+loop-c-smaller c = search searching
+
+pub loop-c-preserved : goal.loop-c-preserved
+loop-c-preserved c = search searching
+
+pub returns : goal.returns
+returns c = search searching

@@ -1,0 +1,13 @@
+-- `session_values::store_values` meets its contract: the first c values are stored. Assumes nothing.
+use Prim.Native.Nat.{◌≤◌, ◌-◌}
+use mathlib.Core.Path.{◌≡◌}
+use lib.ListN.{length}
+use Rattle.session_values.specs.Body.{value_in}
+use Rattle.session_values.proofs.WordLaws.{stores, Stored}
+use Rattle.session_values.proofs.store_values.Given as goal
+
+abbrev pub invariant-loop-c : goal.invariant-loop-c
+invariant-loop-c l = (l.c ≤ l.n) × (length l.values ≡ length l.initial.values) × Stored (value_in l.body l.n l.order) l.initial.values l.c l.values
+
+abbrev pub decreases-loop-c : goal.decreases-loop-c
+decreases-loop-c l = l.n - l.c
