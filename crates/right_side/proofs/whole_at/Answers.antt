@@ -54,6 +54,6 @@ returns c =
     let l = c.loop-i in
     let v : ℤ = field c.args.values.now c.args.c in
     let f : SFits w32 v = record { sfits = c.wide-arg-1.given } in
-    let k : SFits w64 c.wide-b.result = record { sfits = c.wide-b.type-inv } in
+    let k : SFits w64 c.wide-b.result = record { sfits = c.wide-b.type_inv } in
     let e : to_z w64 (of_z w64 c.wide-b.result) ≡ v = to_z-of_z k ∙ gives_wide v c.wide-b.result f c.wide-b.ensures in
-    gathering_end c.args.g c.args.c l.i (to_z w64 (of_z w64 c.wide-b.result)) (to_z w64 l.b) c.neighbours-around.ensures e l.invariant.1 l.invariant.0 (omega arith)
+    gathering_end c.args.g c.args.c l.i (to_z w64 (of_z w64 c.wide-b.result)) (to_z w64 l.b-bits) c.neighbours-around.ensures e l.invariant.1 l.invariant.0 (omega arith)

@@ -12,7 +12,7 @@ use Rattle.right_side.proofs.Laws.{Gathering, sides, gathering_end}
 use Rattle.right_side.proofs.whole_at.Given as goal
 
 abbrev pub invariant-loop-i : goal.invariant-loop-i
-invariant-loop-i l = (l.i ≤ 6) × Gathering l.labels l.values l.around (to_z w64 l.initial.b) l.i (to_z w64 l.b)
+invariant-loop-i l = (l.i ≤ 6) × Gathering l.labels l.values l.around l.initial.b l.i l.b
 
 abbrev pub decreases-loop-i : goal.decreases-loop-i
 decreases-loop-i l = 6 - l.i
