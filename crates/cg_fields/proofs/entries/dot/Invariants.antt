@@ -1,0 +1,14 @@
+-- `cg_fields::entries::dot` meets its contract: each turn adds a product, tested or not. Assumes nothing.
+use Prim.Native.Nat.{◌≤◌, ◌-◌}
+use native.Mathlib.Omega.{arith}
+use Rattle.laws.specs.Binary64.{+0}
+use Rattle.laws.proofs.Loops.{Up, ups}
+use Rattle.cg_fields.specs.Entries.{dot_all}
+use Rattle.cg_fields.proofs.Calm.{dot_more, dot_quiet}
+use Rattle.cg_fields.proofs.entries.dot.Given as goal
+
+abbrev pub invariant-loop-c : goal.invariant-loop-c
+invariant-loop-c l = (l.c ≤ l.n) × Up (dot_all l.a l.b) +0 l.c l.sum
+
+abbrev pub decreases-loop-c : goal.decreases-loop-c
+decreases-loop-c l = l.n - l.c

@@ -1,0 +1,13 @@
+-- `cg_fields::entries::take_t` meets its contract: after c turns the room is c stores on. Assumes nothing.
+use Prim.Native.Nat.{◌≤◌, ◌-◌}
+use mathlib.Core.Path.{◌≡◌}
+use lib.ListN.{length}
+use Rattle.laws.proofs.Loops.{Up}
+use Rattle.cg_fields.proofs.Aims.{take_turn, taking}
+use Rattle.cg_fields.proofs.entries.take_t.Given as goal
+
+abbrev pub invariant-loop-c : goal.invariant-loop-c
+invariant-loop-c l = (l.c ≤ l.n) × (length l.room ≡ length l.initial.room) × Up (take_turn l.n) l.initial.room l.c l.room
+
+abbrev pub decreases-loop-c : goal.decreases-loop-c
+decreases-loop-c l = l.n - l.c

@@ -1,0 +1,14 @@
+use Rattle.rounds.proofs.Turns.{turns, sigma_is}
+use Rattle.rounds.proofs.Calm.{calm}
+use borrow.Author.Rules.{rules}
+use Rattle.rounds.proofs.scalars.sigma_of.Goals as goal
+
+pub inner-requires : goal.inner-requires
+inner-requires c = record {
+  held = search turns;
+  quiet = search calm;
+  quiet_2 = search calm;
+}
+
+pub returns : goal.returns
+returns c = search (rules, sigma_is)
