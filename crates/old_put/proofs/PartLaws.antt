@@ -97,7 +97,7 @@ valued_more u vs old new next at i r q l h m p =
     let e : flat_map (old_value_written u) (take (i + 1) vs) ≡ flat_map (old_value_written u) (take i vs) ++ old_value_written u (get_or vs i (pos 0)) =
     ap (λ k. flat_map (old_value_written u) (take k vs)) (add-one i) ∙ ap (flat_map (old_value_written u)) (take-suc vs i (pos 0) l)
     ∙ flat_append (old_value_written u) (take i vs) (get_or vs i (pos 0) ∷ []) ∙ ap (λ x. flat_map (old_value_written u) (take i vs) ++ x) (flat_one (old_value_written u) (get_or vs i (pos 0))) in
-    let f : to_z w32 (of_z w32 (get_or vs i (pos 0))) ≡ get_or vs i (pos 0) = to_z-of_z (record { sfits = m }) in
+    let f : to_z w32 (of_z w32 (get_or vs i (pos 0))) ≡ get_or vs i (pos 0) = to_z-of_z {w = w32} (record { sfits = m }) in
     record { puts = rw e (put_then h.puts (rw f at p)) }
 
 pub valued_all : (u : ℕ) (vs : List ℤ) (old new : List ℕ) (at i r : ℕ) → length vs ≤ i → Valued u vs old at i new r → Put (flat_map (old_value_written u) vs) old at new r

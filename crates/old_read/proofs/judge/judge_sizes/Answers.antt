@@ -20,8 +20,8 @@ returns-then-left-n c = search sizes
 
 pub returns-then-room-n : goal.returns-then-room-n
 returns-then-room-n c =
-    sizes_2 c.args.sides c.args.unit c.args.left c.args.room c.args.settings _ c.fit_sides.ensures
-    (not-false _ c.if-not-sides_fit.false) _ c.cell_count-n.ensures.0 c.if-left-n.false c.if-room-n.true
+    sizes_2 c.args.sides c.args.unit c.args.left c.args.room c.args.settings _ c.sides_fit.ensures
+    c.if-not-sides_fit.false _ c.cell_count-n.ensures.0 c.if-left-n.false c.if-room-n.true
 
 pub limits_fit-requires : goal.limits_fit-requires
 limits_fit-requires c = search sizes
