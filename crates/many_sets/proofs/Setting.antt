@@ -54,7 +54,7 @@ pub ready_run : {g : Sides} {ls : List ℕ} {t : Settings} {of : Measured} {plan
     → RunAsked g ls vs t of plan bytes words floats pressures
 unfolding float_need
 ready_run {g} {ls} {t} z vs pressures ev ep = record {
-  of_cast = z.decreases;
+  of_cast = z.measured;
   ready = record {
     planned = record {
       prepared = record { levels = z.planned.prepared; size = ap cells (sym z.planned.sides); roomy = omega (arith, z.floats_long) };

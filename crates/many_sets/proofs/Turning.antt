@@ -132,7 +132,7 @@ module _ (g : Sides) (ls : List ℕ) (vs : List ℤ) (t : Settings) (sets : ℕ)
 -- ---- what a turn of the loop asks, and where it goes on
 pub ready_again : {g : Sides} {ls : List ℕ} {t : Settings} {of : Measured} {plan : Plan} {bytes words : List ℕ} {floats : ℕ} (m : ℕ)
     → CastReady g ls t of plan bytes words floats → m ≡ floats → CastReady g ls t of plan bytes words m
-ready_again m z e = record { past = z.past; measured = z.decreases; planned = z.planned; floats_long = e ∙ z.floats_long }
+ready_again m z e = record { past = z.past; measured = z.measured; planned = z.planned; floats_long = e ∙ z.floats_long }
 
 pub within : (s k n from m : ℕ) → s < k → from ≡ s * n → m ≡ k * n → from + n ≤ m
 within s k n from m h e q = omega (arith, stretch_ends s k n h)

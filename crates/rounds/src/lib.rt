@@ -42,7 +42,7 @@ fn test_x(
     acceptance::test(g, labels, values, &room[x..x + n], settings)
 }
 
-// x + alpha·p, r - typeof.alpha.A p, with A p in t.
+// x + alpha·p, r - alpha·A p, with A p in t.
 fn move_on(room: &mut [f64], labels: &[u8], g: Sides, alpha: f64)
     requires held { Held g labels.now room.old }
     requires alpha_value { finite alpha ≡ true }

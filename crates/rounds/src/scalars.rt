@@ -98,7 +98,7 @@ fn apply(room: &mut [f64], bytes: &[u8], words: &[u32], plan: Plan, labels: &[u8
     cg_fields::entries::apply(room, air, n, nx, plane, zero);
 }
 
-// A p in t, and sigma = typeof.p.A p.
+// A p in t, and sigma = p·A p.
 fn sigma_of(
     room: &mut [f64],
     bytes: &[u8],
