@@ -61,23 +61,23 @@ clear-requires c =
     let k =
     known c.args.sides c.args.labels.now c.args.settings c.args.sets c.args.values.now c.args.pressures.now c.args.answers.now c.args.bytes.now c.args.floats.now c.args.words.now
     _ c.judge.ensures c.in-Allowed.is in
-    clear_asked _ _ _ _ _ _ _ _ _ _ k c.work-answer.new.1.1.1.1.1.1.1.0 c.work-answer.new.1.1.1.1.1.1.1.1.0 c.work-answer.new.1.1.1.1.1.1.1.1.1.0 c.work-answer.auto.1.1.1.1.1.1.1.0 c.work-answer.auto.1.1.1.1.1.1.1.1.0 c.work-answer.auto.1.1.1.1.1.1.1.1.1.0
+    clear_asked _ _ _ _ _ _ _ _ _ _ k c.work-answer.new.bytes c.work-answer.new.floats c.work-answer.new.words c.work-answer.auto.bytes c.work-answer.auto.floats c.work-answer.auto.words
 
 pub returns-in-Refused : goal.returns-in-Refused
 returns-in-Refused c = search many_solves
 
 pub shape_of-bytes : goal.shape_of-bytes
-shape_of-bytes c = c.clear.auto.0 ∙ same_len_mid 0 (2 * length c.args.labels.now + 16 - 0) c.args.bytes.now c.work-answer.new.1.1.1.1.1.1.1.0 c.work-answer.auto.1.1.1.1.1.1.1.0
+shape_of-bytes c = c.clear.auto.bytes ∙ same_len_mid 0 (2 * length c.args.labels.now + 16 - 0) c.args.bytes.now c.work-answer.new.bytes c.work-answer.auto.bytes
 
 pub shape_of-floats : goal.shape_of-floats
-shape_of-floats c = c.clear.auto.1.0 ∙ same_len_mid 0 (8 * length c.args.labels.now + 64 - 0) c.args.floats.now c.work-answer.new.1.1.1.1.1.1.1.1.0 c.work-answer.auto.1.1.1.1.1.1.1.1.0
+shape_of-floats c = c.clear.auto.floats ∙ same_len_mid 0 (8 * length c.args.labels.now + 64 - 0) c.args.floats.now c.work-answer.new.floats c.work-answer.auto.floats
 
 pub shape_of-words : goal.shape_of-words
-shape_of-words c = c.clear.auto.1.1.0 ∙ same_len_mid 0 (2 * length c.args.labels.now - 0) c.args.words.now c.work-answer.new.1.1.1.1.1.1.1.1.1.0 c.work-answer.auto.1.1.1.1.1.1.1.1.1.0
+shape_of-words c = c.clear.auto.words ∙ same_len_mid 0 (2 * length c.args.labels.now - 0) c.args.words.now c.work-answer.new.words c.work-answer.auto.words
 
 pub returns-in-Allowed : goal.returns-in-Allowed
 returns-in-Allowed c =
     let k =
     known c.args.sides c.args.labels.now c.args.settings c.args.sets c.args.values.now c.args.pressures.now c.args.answers.now c.args.bytes.now c.args.floats.now c.args.words.now
     _ c.judge.ensures c.in-Allowed.is in
-    solved_is _ _ _ _ _ _ _ _ _ _ k c.work-answer.new.1.1.1.1.1.1.1.0 c.work-answer.new.1.1.1.1.1.1.1.1.0 c.work-answer.new.1.1.1.1.1.1.1.1.1.0 c.work-answer.auto.1.1.1.1.1.1.1.0 c.work-answer.auto.1.1.1.1.1.1.1.1.0 c.work-answer.auto.1.1.1.1.1.1.1.1.1.0 _ _ _ _ _ _ c.work-answer.ensures c.clear.ensures.bytes_after c.clear.ensures.floats_after c.clear.ensures.words_after
+    solved_is _ _ _ _ _ _ _ _ _ _ k c.work-answer.new.bytes c.work-answer.new.floats c.work-answer.new.words c.work-answer.auto.bytes c.work-answer.auto.floats c.work-answer.auto.words _ _ _ _ _ _ c.work-answer.ensures c.clear.ensures.bytes_after c.clear.ensures.floats_after c.clear.ensures.words_after
