@@ -23,15 +23,15 @@ BUILT = os.path.join(ROOT, "target", "bench")
 
 def missing():
     """What has to be there besides Eigen and its compiler, which bench/build looks for."""
-    if programs.shutil.which("rt") is None:
-        return "rt, the Rattle toolchain"
+    if programs.emulated() and programs.shutil.which("qemu-x86_64") is None:
+        return "qemu-x86_64 (Debian: qemu-user)"
     if not os.path.exists(os.path.join(ROOT, "target", "compare", "harness")):
         return "our library behind its harness, target/compare/harness: bash compare/build target/compare"
     return None
 
 
 def eigen_command():
-    """Builds Eigen's side for the processor that our programs run on (elsewhere than on x86-64 both run under the kit's emulator); None where that fails."""
+    """Builds Eigen's side for the processor that our programs run on (elsewhere than on x86-64 both run under qemu-x86_64); None where that fails."""
     emulated = programs.emulated()
     named = dict(os.environ, CXX=CROSS, NAME="eigen-x86-64") if emulated else dict(os.environ)
     if subprocess.run(["bash", os.path.join(ROOT, "bench", "build"), BUILT], env=named).returncode != 0:

@@ -1,4 +1,4 @@
-"""Runs a built program of ours: as it is on x86-64, under the kit's emulator where there is one."""
+"""Runs a built program of ours: as it is on x86-64, elsewhere under qemu-x86_64."""
 import os
 import platform
 import shutil
@@ -9,22 +9,14 @@ CROSS = "x86_64-linux-gnu-gcc"
 CROSS_LIBRARY = "/usr/x86_64-linux-gnu"
 
 
-def tools():
-    """The kit's toolchain for this processor. The kit is the parent of the folder in which the resolved rt stands."""
-    kit = os.path.dirname(os.path.dirname(os.path.realpath(shutil.which("rt"))))
-    return os.path.join(kit, "on", platform.machine(), "toolchain")
-
-
 def emulated():
-    """The words that run an x86-64 program here: none on x86-64, the kit's emulator elsewhere."""
-    emulator = os.path.join(tools(), "bin", "qemu-x86_64")
-    return [emulator] if os.path.exists(emulator) else []
+    """The words that run an x86-64 program here: none on x86-64, the emulator elsewhere."""
+    return [] if platform.machine() == "x86_64" else [shutil.which("qemu-x86_64") or "qemu-x86_64"]
 
 
 def command(name):
-    """The words that run target/bin/NAME."""
-    library = os.path.join(tools(), "lib")
-    return emulated() + [os.path.join(library, "ld-linux-x86-64.so.2"), "--library-path", library, os.path.join(ROOT, "target", "bin", name)]
+    """The words that run target/bin/NAME, as `./airway --build` left it."""
+    return crossed() + [os.path.join(ROOT, "target", "bin", name)]
 
 
 def compiler():
@@ -33,7 +25,7 @@ def compiler():
 
 
 def crossed():
-    """The words that run a program of that compiler: none on x86-64, the emulator with Debian's cross C library elsewhere."""
+    """The words that run a program that needs a C library: none on x86-64, the emulator with Debian's cross C library elsewhere."""
     return emulated() + ["-L", CROSS_LIBRARY] if emulated() else []
 
 

@@ -1,8 +1,9 @@
 #!/usr/bin/env python3
 """The definitions against vectors: random cases, answered by the separate implementation, judged by the checker.
 
-Makes a temporary repository with the crates `laws` and `method` (definitions alone, no hand cases) and two generated crates
-that hold one small computed declaration for each vector, and has `rt check` judge them.
+Makes a temporary repository with the crates `laws` and `method` (definitions alone, no hand cases) and a generated crate
+that holds one small computed declaration for each vector, and has `rt check` judge them. It lies outside of this checkout,
+where `rt ci` takes a file of a crate that it knows nothing of for a fault.
 
 Exit status 0: every vector computes to what the separate implementation gives.
             1: a vector differs; it is named, with what it was made from.
@@ -24,7 +25,7 @@ import generate
 
 HERE = os.path.dirname(os.path.abspath(__file__))
 ROOT = os.path.dirname(HERE)
-CRATES = 2          # generated crates: the machine checks two at a time
+CRATE = "vectors"   # the generated crate
 CHUNK = 12          # declarations in a module
 LARGE = 16          # cells times rounds: above this a cast is large
 
@@ -222,9 +223,9 @@ def rewritten(rng, number):
         setting = "record {{ tolerance = {}; levels = {}; rounds = {} }}".format(*settings)
         lent = len(session) + number % 3
         want = numbers(list(session) + [7] * (lent - len(session)))
-        made.append(Vector("written", f"writing (record {{ cast = {cast}; order = {order.capitalize()}; settings = {setting}; output = replicate {lent} 7 }}) .output",
+        made.append(Vector("written", f"(writing (record {{ cast = {cast}; order = {order.capitalize()}; settings = {setting}; output = replicate {lent} 7 }})).output",
                            want, f"{nx}x{ny}x{nz} {order}"))
-        made.append(Vector("read", f"reading (record {{ bytes = {numbers(session)}; values = replicate {nx * ny * nz} (pos 7) }}) .values",
+        made.append(Vector("read", f"(reading (record {{ bytes = {numbers(session)}; values = replicate {nx * ny * nz} (pos 7) }})).values",
                            listed('(' + whole_term(v) + ')' for v in values), f"{nx}x{ny}x{nz} {order}"))
     return made
 
@@ -256,7 +257,7 @@ def piece_vector(separate, rng, name):
     if name == "coarse":
         return Vector(name, f"coarse {s} {ls}", numbers(separate.piece(name, head)), story)
     if name == "band":
-        return Vector(name, f"tab {n} (inBand {s} {ls})", bools(separate.piece(name, head)), story)
+        return Vector(name, f"tab {n} (in_band {s} {ls})", bools(separate.piece(name, head)), story)
     if name == "depth":
         word, number = separate.piece(name, head)
         found = f"At {number}" if word == "sealed" else "Nowhere"
@@ -268,7 +269,7 @@ def piece_vector(separate, rng, name):
         ps = [rng.randint(-2**41, 2**41) if l == 0 else v for l, v in zip(labels, values)]
         terms = [listed("(" + whole_term(z) + ")" for z in zs) for zs in (values, ps)]
         want = separate.piece(name, head + values + ps)
-        return Vector(name, f"tab {n} (λ c. cond (isAir {ls} c) (residual {s} {ls} (field {terms[0]}) (field {terms[1]}) c) (pos 0))",
+        return Vector(name, f"tab {n} (λ c. cond (is_air {ls} c) (residual {s} {ls} (field {terms[0]}) (field {terms[1]}) c) (pos 0))",
                       listed("(" + whole_term(int(z)) + ")" for z in want), story)
     if name in ("restrict", "prolong"):
         at = labels if name == "restrict" else [int(l) for l in separate.piece("coarse", head)]
@@ -280,8 +281,8 @@ def piece_vector(separate, rng, name):
         b = random_floats(rng, n, labels)
         return Vector(name, f"cycle 0 {levels - 1} {s} {ls} {floats(b)}", floats(separate.piece(name, head + [levels] + b)), f"{story} {levels} levels")
     b, u = random_floats(rng, n, labels), random_floats(rng, n, labels)
-    got = {"up": f"ascending {s} {ls} (isAir {ls})", "down": f"descending {s} {ls} (isAir {ls})",
-           "bandup": f"ascending {s} {ls} (inBand {s} {ls})", "banddown": f"descending {s} {ls} (inBand {s} {ls})",
+    got = {"up": f"ascending {s} {ls} (is_air {ls})", "down": f"descending {s} {ls} (is_air {ls})",
+           "bandup": f"ascending {s} {ls} (in_band {s} {ls})", "banddown": f"descending {s} {ls} (in_band {s} {ls})",
            "jacobi": f"jacobi {s} {ls}", "residual": f"residue {s} {ls}"}[name]
     return Vector(name, f"{got} {floats(b)} {floats(u)}", floats(separate.piece(name, head + b + u)), story)
 
@@ -329,33 +330,28 @@ def all_vectors(separate, seed, casts, sessions, pieces):
 
 # ---------------------------------------------------------------- the temporary repository
 
-USES = """use Prim.Native.Nat.{ℕ}
-use mathlib.Core.Bool.{Bool, true, false, cond}
-use mathlib.Core.Path.{_≡_, refl}
-use mathlib.Core.List.{List, [], _∷_, map}
-use lib.ListN.{replicate}
-use lib.IntN.{ℤ, pos, negsuc}
-use lib.Ieee.{Float, nan, inf, fin}
-use Rattle·laws.specs.Lists.{tab}
-use Rattle·laws.specs.Text.{text}
-use Rattle·method.specs.declared.Sides.{Sides}
-use Rattle·method.specs.declared.Order.{Order}
-use Rattle·method.specs.declared.Order.the-variants.{Big, Little}
-use Rattle·method.specs.declared.Found.{Found}
-use Rattle·method.specs.declared.Found.the-variants.{Nowhere, At}
-use Rattle·method.specs.declared.Tick.{Tick}
-use Rattle·method.specs.declared.Tick.the-variants.{Whole, Refused}
-use Rattle·method.specs.Cast.{isAir, field, residual}
-use Rattle·method.specs.Walks.{depth, sealed}
-use Rattle·method.specs.Levels.{coarse}
-use Rattle·method.specs.Transfers.{restricted, prolongated}
-use Rattle·method.specs.Cycle.{inBand}
-use Rattle·method.specs.Cycle.{ascending, descending, jacobi, residue, cycle}
-use Rattle·method.specs.Ticks.{tick}
-use Rattle·method.specs.Reading.{reading}
-use Rattle·method.specs.Writing.{writing}
-use Rattle·method.specs.Program.{program}
-use Rattle·method.specs.Computing.{computing}
+USES = """use Rattle.std.specs.Prelude.{◌≡◌, refl, true, false, cond, [], ◌∷◌, map, replicate, pos, negsuc}
+use Rattle.std.specs.Float.{nan, inf, fin}
+use Rattle.laws.specs.Lists.{tab}
+use Rattle.laws.specs.Text.{text}
+use Rattle.method.specs.declared.Sides.{Sides}
+use Rattle.method.specs.declared.Order.{Order}
+use Rattle.method.specs.declared.Order.TheVariants.{Big, Little}
+use Rattle.method.specs.declared.Found.{Found}
+use Rattle.method.specs.declared.Found.TheVariants.{Nowhere, At}
+use Rattle.method.specs.declared.Tick.{Tick}
+use Rattle.method.specs.declared.Tick.TheVariants.{Whole, Refused}
+use Rattle.method.specs.Cast.{is_air, field, residual}
+use Rattle.method.specs.Walks.{depth, sealed}
+use Rattle.method.specs.Levels.{coarse}
+use Rattle.method.specs.Transfers.{restricted, prolongated}
+use Rattle.method.specs.Cycle.{in_band}
+use Rattle.method.specs.Cycle.{ascending, descending, jacobi, residue, cycle}
+use Rattle.method.specs.Ticks.{tick}
+use Rattle.method.specs.Reading.{reading}
+use Rattle.method.specs.Writing.{writing}
+use Rattle.method.specs.Program.{program}
+use Rattle.method.specs.Computing.{computing}
 """
 
 
@@ -368,7 +364,7 @@ def write(path, text):
 def founded(folder):
     """The crates that the vectors stand on: `laws`, and `method` without its hand cases."""
     for crate in ("laws", "method"):
-        shutil.copytree(os.path.join(ROOT, "crates", crate), os.path.join(folder, "crates", crate), ignore=shutil.ignore_patterns("must-fail"))
+        shutil.copytree(os.path.join(ROOT, "crates", crate), os.path.join(folder, "crates", crate), ignore=shutil.ignore_patterns("must-fail", "out"))
     shutil.rmtree(os.path.join(folder, "crates", "method", "proofs"))
 
 
@@ -383,34 +379,33 @@ def edited(folder, edit):
 
 
 def laid_out(folder, vectors):
-    names = [f"vectors{c}" for c in range(CRATES)]
-    write(os.path.join(folder, "crates.txt"), "laws:\nmethod: laws\n" + "".join(f"{n}: laws method\n" for n in names))
-    for c, name in enumerate(names):
-        own = list(enumerate(vectors))[c::CRATES]
-        modules = [own[k:k + CHUNK] for k in range(0, len(own), CHUNK)]
-        write(os.path.join(folder, "crates", name, "src", "lib.rt"), "// Vectors.\n")
-        write(os.path.join(folder, "crates", name, "specs", "Lib.antt"), "".join(f"pub mod M{k}\n" for k in range(len(modules))))
-        for k, module in enumerate(modules):
-            text = USES + "".join(f"\nv{n} : {v.got} ≡ {v.want}\nunfolding computing\nv{n} = refl\n" for n, v in module)
-            write(os.path.join(folder, "crates", name, "specs", f"M{k}.antt"), text)
+    write(os.path.join(folder, "crates.txt"), f"laws:\nmethod: laws\n{CRATE}: laws method\n")
+    numbered = list(enumerate(vectors))
+    modules = [numbered[k:k + CHUNK] for k in range(0, len(numbered), CHUNK)]
+    own = os.path.join(folder, "crates", CRATE)
+    write(os.path.join(own, "src", "lib.rt"), "// Vectors.\n#![tactic(auto)]\n")
+    write(os.path.join(own, "specs", "Lib.antt"), "".join(f"pub mod M{k}\n" for k in range(len(modules))))
+    for k, module in enumerate(modules):
+        text = USES + "".join(f"\nv{n} : {v.got} ≡ {v.want}\nunfolding computing\nv{n} = refl\n" for n, v in module)
+        write(os.path.join(own, "specs", f"M{k}.antt"), text)
 
 
 # how the checker says that the two sides of an equation have different values
 DIFFERS = r"(as printed, |computed as far as they go, )?the two types (first )?differ|expected type `"
 
 
-def checked(folder, names=(), **settings):
-    return subprocess.run(["rt", "check", *names], cwd=folder, stdin=subprocess.DEVNULL, stdout=subprocess.PIPE, stderr=subprocess.STDOUT,
-                          env=dict(os.environ, RT_CUT="0", **settings), check=False)
+def checked(folder, crate, *flags):
+    return subprocess.run(["rt", "check", *flags], cwd=os.path.join(folder, "crates", crate), stdin=subprocess.DEVNULL, stdout=subprocess.PIPE,
+                          stderr=subprocess.STDOUT, check=False)
 
 
-def judged(folder, **settings):
+def judged(folder, *flags):
     """The vectors that differ. Anything else that is not a clean pass is no verdict."""
-    done = checked(folder, **settings)
+    done = checked(folder, CRATE, *flags)
     said = done.stdout.decode("utf-8", "replace")
     if done.returncode == 0:
-        if "rt: ok" not in said:
-            raise NoVerdict("rt check said nothing of its crates")
+        if not said.rstrip("\n").split("\n")[-1].startswith("logic=proved "):
+            raise NoVerdict("rt check said nothing of its crate")
         return []
     errors = [line for line in said.split("\n") if re.search(r": error: ", line)]
     differing, other = [], []
@@ -465,7 +460,7 @@ def caught(base, vectors, name, edit, kinds):
         try:
             edited(folder, edit)
             laid_out(folder, vectors)
-            differing = judged(folder, RT_JOBS="1")
+            differing = judged(folder, "--jobs", "1")
         except NoVerdict as error:
             return f"wrong edit {name}: no verdict: {error}", 3
     if not differing:
@@ -478,10 +473,10 @@ def wrong_edits(separate, options):
     """Each edit must be caught by a vector that differs; as many at a time as the machine has processors. 0: all were; 1: one was not;
     3: no verdict on one. The vectors are made once, and `laws`, which no edit touches, is proved once."""
     vectors, worst = vectors_of(separate, options), 0
-    with tempfile.TemporaryDirectory(prefix="vectors") as base, concurrent.futures.ThreadPoolExecutor(os.cpu_count() or 1) as pool:
+    with tempfile.TemporaryDirectory(prefix="vectors") as base, concurrent.futures.ThreadPoolExecutor(len(os.sched_getaffinity(0))) as pool:
         founded(base)
         write(os.path.join(base, "crates.txt"), "laws:\nmethod: laws\n")
-        if checked(base, ["laws"]).returncode != 0:
+        if checked(base, "laws").returncode != 0:
             raise NoVerdict("laws is not proved")
         for said, status in pool.map(lambda made: caught(base, vectors, *made), edits_in(options.wrong)):
             print(said, flush=True)

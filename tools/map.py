@@ -8,13 +8,13 @@ ROOT = os.path.dirname(os.path.dirname(os.path.abspath(__file__)))
 
 
 def crates():
-    """Name -> the names that it stands on, without the kit's own."""
+    """Name -> the names that it stands on, without the kit's own; `staticlib` may stand behind a name."""
     on = {}
     with open(os.path.join(ROOT, "crates.txt"), encoding="utf-8") as file:
         for line in file:
             if ":" in line and not line.startswith("#"):
                 name, _, rest = line.partition(":")
-                on[name.strip()] = rest.split()
+                on[name.split()[0]] = rest.split()
     return {name: [other for other in below if other in on] for name, below in on.items()}
 
 

@@ -36,6 +36,17 @@ def content(path):
         return file.read()
 
 
+def crates():
+    """Name -> what it stands on, as crates.txt has them."""
+    on = {}
+    with open(os.path.join(form.ROOT, "crates.txt"), encoding="utf-8") as file:
+        for line in file:
+            if not line.startswith("#") and ":" in line:
+                name, _, rest = line.partition(":")
+                on[name.split()[0]] = rest.split()
+    return on
+
+
 def small():
     """1 0 2 0 2, case d: cell 3 is sealed."""
     return Session((5, 1, 1), "big", 0, 1, 5, [OPENING, AIR, WALL, AIR, WALL], [0] * 5)
@@ -428,6 +439,8 @@ class Script(Case):
         os.makedirs(os.path.join(root, "crates", "airway", "src"))
         for name in ("airway", "crates.txt", "crates/airway/src/main.rt"):
             shutil.copy(os.path.join(form.ROOT, name), os.path.join(root, name))
+        for name in crates():
+            os.makedirs(os.path.join(root, "crates", name, "src"), exist_ok=True)
         shutil.copytree(os.path.join(form.ROOT, "tools"), os.path.join(root, "tools"), ignore=shutil.ignore_patterns("__pycache__"))
         past = time.time() - 1000
         for name in ("crates.txt", "crates/airway/src/main.rt"):
@@ -438,16 +451,14 @@ class Script(Case):
         return root
 
     def kit(self, program):
-        """A folder with an rt that proves nothing: it says what rt says and hands out the program built already. Beside it the true kit's toolchain."""
-        real = os.path.dirname(os.path.dirname(os.path.realpath(shutil.which("rt"))))
+        """A folder with an rt that proves nothing: in a crate's folder it says what rt says, and as the program hands out the one built already."""
         os.makedirs(self.path("kit", "bin"))
-        os.symlink(os.path.join(real, "on"), self.path("kit", "on"))
         if os.path.exists(program):
             program = shutil.copy(program, self.path("kit", "airway"))
         with open(self.path("kit", "bin", "rt"), "w") as file:
-            file.write("#!/bin/sh\n[ \"$1\" = check ] || exit 2\n[ -z \"$RT_FAILS\" ] || { echo 'rt: laws: not proved'; exit 1; }\nmkdir -p target/log target/bin\n"
-                       "for c in laws method airway; do sleep 0.05; : > target/log/$c.out; sleep 0.5; echo \"rt: $c proved (1 s)\"; done\n"
-                       f"cp '{program}' target/bin/\n")
+            file.write("#!/bin/sh\nhere=${PWD##*/}\n[ -z \"$RT_FAILS\" ] || [ $here != $RT_FAILS ] || { echo logic=not-proved; exit 1; }\n"
+                       "mkdir -p out\necho \"fn $here::all: proved\"\ncase \"$here $1\" in\n"
+                       f"  'airway run') cp '{program}' out/; [ -z \"$RT_ENDS\" ] || exit $RT_ENDS ;;\n  'airway lib' | *' run') exit 2 ;;\n  *' lib') ;;\n  *) exit 2 ;;\nesac\necho logic=proved\n")
         os.chmod(self.path("kit", "bin", "rt"), 0o755)
         return self.path("kit", "bin")
 
@@ -487,7 +498,7 @@ class Script(Case):
 
     def test_without_rt(self):
         if platform.machine() != "x86_64" and shutil.which("qemu-x86_64") is None:
-            self.skipTest("no emulator besides the kit's")
+            self.skipTest("no emulator")
         root = self.clone()
         done = self.answered(root, env=dict(os.environ, PATH=self.bare_path()))
         self.assertEqual((done.returncode, done.stdout[:9], done.stderr), (0, b"answer=0\n", b""))
@@ -504,28 +515,28 @@ class Script(Case):
         here = dict(os.environ, PATH=self.kit(os.path.join(form.ROOT, "target", "bin", "airway")) + ":" + os.environ["PATH"])
         done = self.answered(root, env=here)
         self.assertEqual((done.returncode, done.stdout[:9]), (0, b"answer=0\n"), done.stderr)
-        # it looks a few times a second, so on a busy machine a crate may pass unseen
-        shown = done.stderr.decode().split("\n")[:-1]
-        self.assertTrue(shown and shown == [line for line in ("proving 1 of 3: laws", "proving 2 of 3: method", "proving 3 of 3: airway") if line in shown], shown)
-        self.assertIn("rt: method proved", content(os.path.join(root, "target", "airway.log")).decode())
+        self.assertEqual(done.stderr.decode(), "proving 1 of 3: laws\nproving 2 of 3: method\nproving 3 of 3: airway\n")
+        self.assertIn("fn method::all: proved", content(os.path.join(root, "target", "airway.log")).decode())
         self.assertEqual(self.answered(root, env=here).stderr, b"")
 
     def test_refused_build(self):
+        """Where a library or the program is not proved there is no program, also where one stands in out/ from before; a status of the program's own is none of rt's."""
         root = self.clone(built=False)
-        here = dict(os.environ, PATH=self.kit("/none") + ":" + os.environ["PATH"], RT_FAILS="1")
-        done = self.answered(root, env=here)
-        self.assertEqual((done.returncode, done.stdout), (1, b""))
-        self.assertIn(b"was not proved and built", done.stderr)
+        program = os.path.join(form.ROOT, "target", "bin", "airway")
+        here = dict(os.environ, PATH=self.kit(program) + ":" + os.environ["PATH"])
+        os.makedirs(os.path.join(root, "crates", "airway", "out"))
+        shutil.copy(program, os.path.join(root, "crates", "airway", "out", "airway"))
+        for crate in ("laws", "airway"):
+            done = self.answered(root, env=dict(here, RT_FAILS=crate))
+            self.assertEqual((done.returncode, done.stdout), (1, b""))
+            self.assertIn(b"was not proved and built", done.stderr)
+            self.assertFalse(os.path.exists(os.path.join(root, "target", "bin", "airway")))
+        self.assertEqual(self.answered(root, env=dict(here, RT_ENDS="1")).stdout[:9], b"answer=0\n")
 
     def test_crates_are_counted(self):
-        """The script's count of the crates of airway is what rt checks."""
-        on = {}
-        with open(os.path.join(form.ROOT, "crates.txt"), encoding="utf-8") as file:
-            for line in file:
-                if not line.startswith("#") and ":" in line:
-                    name, _, rest = line.partition(":")
-                    on[name] = rest.split()
-        for crate in ("airway", "airway_large"):
+        """The crates that the script has proved for a program are what rt checks, each after those that it stands on."""
+        on = crates()
+        for crate in ("airway", "airway_large", "airway_old", "airway_renew", "quetzalcup"):
             need, edge = set(), [crate]
             while edge:
                 name = edge.pop()
@@ -533,9 +544,12 @@ class Script(Case):
                     need.add(name)
                     edge.extend(on[name])
             script = content(form.SCRIPT).decode()
-            counting = script[script.index("stands_on() {"):script.index("# One line at a time")]
+            counting = script[script.index("stands_on() {"):script.index("# Proves a crate and leaves")]
             done = subprocess.run(["bash", "-c", f'root=$1\n{counting}\nstands_on "$2"', "bash", form.ROOT, crate], stdout=subprocess.PIPE, check=True)
-            self.assertEqual(int(done.stdout), len(need))
+            listed = done.stdout.decode().split("\n")[:-1]
+            self.assertEqual((set(listed), len(listed)), (need, len(need)))
+            for number, name in enumerate(listed):
+                self.assertTrue(all(below in listed[:number] for below in on[name] if below in on), name)
 
 
 if __name__ == "__main__":

@@ -20,9 +20,9 @@ pub cycles-requires : goal.cycles-requires
 cycles-requires c =
     let a = c.args in
     record {
-    ready = run_ready a.g a.count a.labels.now a.bytes.now a.words.now (length a.room.now) c.requires _ c.levels_of-l.ensures _ c.all_labels.ensures c.all_labels.auto.bytes _ _ c.all_lists-s.auto.words c.all_lists-s.ensures c.end_in_zero.new.room c.end_in_zero.auto.room;
-    ended = run_end a.g a.count a.labels.now a.bytes.now a.words.now (length a.room.now) c.requires _ c.levels_of-l.ensures a.room.now c.end_in_zero.new.room refl c.end_in_zero.ensures;
-  }
+      ready = run_ready a.g a.count a.labels.now a.bytes.now a.words.now (length a.room.now) c.requires _ c.levels_of-l.ensures _ c.all_labels.ensures c.all_labels.auto.bytes _ _ c.all_lists-s.auto.words c.all_lists-s.ensures c.end_in_zero.new.room c.end_in_zero.auto.room;
+      ended = run_end a.g a.count a.labels.now a.bytes.now a.words.now (length a.room.now) c.requires _ c.levels_of-l.ensures a.room.now c.end_in_zero.new.room refl c.end_in_zero.ensures;
+    }
 
 pub shape_of-room : goal.shape_of-room
 shape_of-room c = search running
