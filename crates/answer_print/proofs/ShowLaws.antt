@@ -172,7 +172,7 @@ module _ (ps : List ℤ) (old : List ℕ) (at : ℕ) where
         let e : flat_map cell_line (take (i + 1) ps) ≡ flat_map cell_line (take i ps) ++ cell_line (get_or ps i (pos 0)) =
         ap (λ k. flat_map cell_line (take k ps)) (add-one i) ∙ ap (flat_map cell_line) (take-suc ps i (pos 0) l)
         ∙ flat_append cell_line (take i ps) (get_or ps i (pos 0) ∷ []) ∙ ap (λ x. flat_map cell_line (take i ps) ++ x) (flat_one cell_line (get_or ps i (pos 0))) in
-        let f : to_z w64 (of_z w64 (get_or ps i (pos 0))) ≡ get_or ps i (pos 0) = to_z-of_z (record { sfits = m }) in
+        let f : to_z w64 (of_z w64 (get_or ps i (pos 0))) ≡ get_or ps i (pos 0) = to_z-of_z {w = w64} (record { sfits = m }) in
         record { puts = rw e (put_then h.puts (rw f at p.puts)); short = omega (arith, h.short, p.short) }
 
     pub celled_all : i ≤ length ps → length ps ≤ i → PutShort (26 * length ps) (flat_map cell_line ps) old at new r
