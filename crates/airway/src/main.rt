@@ -11,7 +11,9 @@ ghost use Rattle.answer_session.specs.Responds.{Roomy};
 ghost use Rattle.airway.specs.Programs.{ProgramOf};
 
 use answer_session::respond;
-use libc::{STDIN_FILENO, STDOUT_FILENO};
+use input_front::read_front;
+use std::io;
+use std::io::Write;
 
 // How many cells there is room for: `method`'s program_room, by which all that is lent is measured.
 const LIMIT: usize = 1000;
@@ -44,7 +46,7 @@ fn answer(
     )
 }
 
-fn main() {
+fn main(rt: HostRuntime) -> io::Result<()> {
     let mut input = [0u8; 5 * LIMIT + 95];
     let mut values = [0i32; LIMIT];
     let mut pressures = [0i64; LIMIT];
@@ -52,7 +54,7 @@ fn main() {
     let mut floats = [0.0f64; 8 * LIMIT + 64];
     let mut words = [0u32; 2 * LIMIT];
     let mut output = [0u8; 26 * LIMIT + 160];
-    let got = io::read_full(STDIN_FILENO, &mut input);
+    let got = read_front(&mut rt.stdin(), &mut input)?;
     let count = answer(
         &input,
         got,
@@ -63,5 +65,5 @@ fn main() {
         &mut words,
         &mut output,
     );
-    io::write_all(STDOUT_FILENO, &output[..count]);
+    rt.stdout().write_all(&output[..count])
 }

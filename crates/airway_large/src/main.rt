@@ -9,7 +9,9 @@ ghost use Rattle.prints.specs.Prints.{buffer_for, large_room};
 ghost use Rattle.answer_session.specs.Responds.{Roomy, FrontOf};
 
 use answer_session::respond;
-use libc::{STDIN_FILENO, STDOUT_FILENO};
+use input_front::read_front;
+use std::io;
+use std::io::{Read, Write};
 
 // How many cells there is room for: as many as the greatest cast has, by which all that is lent is measured.
 const LIMIT: usize = 32768;
@@ -46,8 +48,10 @@ fn answer(
     )
 }
 
-// A session is read from standard input, and its answer written to standard output.
-fn run(
+// A session is read from an input, and its answer written to an output.
+fn run<R: Read, W: Write>(
+    from: &mut R,
+    to: &mut W,
     input: &mut [u8],
     values: &mut [i32],
     pressures: &mut [i64],
@@ -55,17 +59,19 @@ fn run(
     floats: &mut [f64],
     words: &mut [u32],
     output: &mut [u8],
-)
+) -> io::Result<()>
     requires input_len { length input.old ≡ buffer_for large_room }
     requires roomy { Roomy large_room (length values.old) (length pressures.old) (length bytes.old) (length floats.old) (length words.old) (length output.old) }
 {
-    let got = io::read_full(STDIN_FILENO, input);
+    let got = read_front(from, input)?;
     let count = answer(input, got, values, pressures, bytes, floats, words, output);
-    io::write_all(STDOUT_FILENO, &output[..count]);
+    to.write_all(&output[..count])
 }
 
 // The same, in a buffer and rooms for 32,768 cells by their types.
-fn run_large(
+fn run_large<R: Read, W: Write>(
+    from: &mut R,
+    to: &mut W,
     input: &mut [u8; BUFFER],
     values: &mut [i32; LIMIT],
     pressures: &mut [i64; LIMIT],
@@ -73,11 +79,13 @@ fn run_large(
     floats: &mut [f64; 8 * LIMIT + 64],
     words: &mut [u32; 2 * LIMIT],
     output: &mut [u8; PRINT],
-) {
-    run(input, values, pressures, bytes, floats, words, output);
+) -> io::Result<()> {
+    run(
+        from, to, input, values, pressures, bytes, floats, words, output,
+    )
 }
 
-fn main() {
+fn main(rt: HostRuntime) -> io::Result<()> {
     let mut input = [0u8; BUFFER];
     let mut values = [0i32; LIMIT];
     let mut pressures = [0i64; LIMIT];
@@ -86,6 +94,8 @@ fn main() {
     let mut words = [0u32; 2 * LIMIT];
     let mut output = [0u8; PRINT];
     run_large(
+        &mut rt.stdin(),
+        &mut rt.stdout(),
         &mut input,
         &mut values,
         &mut pressures,
@@ -93,5 +103,5 @@ fn main() {
         &mut floats,
         &mut words,
         &mut output,
-    );
+    )
 }

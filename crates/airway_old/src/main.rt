@@ -11,7 +11,10 @@ ghost use Rattle.answer_session.specs.Responds.{Roomy};
 ghost use Rattle.answer_old_session.specs.OldResponds.{OldProgramOf};
 
 use answer_old_session::respond_old;
-use libc::{STDERR_FILENO, STDIN_FILENO, STDOUT_FILENO};
+use input_front::read_front;
+use std::env::Env;
+use std::io;
+use std::io::{Read, Write};
 use method::Settings;
 use session_header::{HeaderRead, read_header};
 
@@ -51,8 +54,10 @@ fn answer(
     )
 }
 
-// A session is read from standard input, and its answer written to standard output.
-fn run(
+// A session is read from an input, and its answer written to an output.
+fn run<R: Read, W: Write>(
+    from: &mut R,
+    to: &mut W,
     settings: Settings,
     input: &mut [u8],
     values: &mut [i32],
@@ -61,19 +66,21 @@ fn run(
     floats: &mut [f64],
     words: &mut [u32],
     output: &mut [u8],
-)
+) -> io::Result<()>
     requires input_len { (length input.old ≡ old_buffer) × (length values.old ≡ large_room) }
     requires roomy { Roomy large_room (length values.old) (length pressures.old) (length bytes.old) (length floats.old) (length words.old) (length output.old) }
 {
-    let got = io::read_full(STDIN_FILENO, input);
+    let got = read_front(from, input)?;
     let count = answer(
         settings, input, got, values, pressures, bytes, floats, words, output,
     );
-    io::write_all(STDOUT_FILENO, &output[..count]);
+    to.write_all(&output[..count])
 }
 
 // The same, in a buffer and rooms for 32,768 cells by their types.
-fn run_large(
+fn run_large<R: Read, W: Write>(
+    from: &mut R,
+    to: &mut W,
     settings: Settings,
     input: &mut [u8; BUFFER],
     values: &mut [i32; LIMIT],
@@ -82,14 +89,14 @@ fn run_large(
     floats: &mut [f64; 8 * LIMIT + 64],
     words: &mut [u32; 2 * LIMIT],
     output: &mut [u8; PRINT],
-) {
+) -> io::Result<()> {
     run(
-        settings, input, values, pressures, bytes, floats, words, output,
-    );
+        from, to, settings, input, values, pressures, bytes, floats, words, output,
+    )
 }
 
 // The same, in arrays of its own.
-fn start(settings: Settings) {
+fn start<R: Read, W: Write>(from: &mut R, to: &mut W, settings: Settings) -> io::Result<()> {
     let mut input = [0u8; BUFFER];
     let mut values = [0i32; LIMIT];
     let mut pressures = [0i64; LIMIT];
@@ -98,6 +105,8 @@ fn start(settings: Settings) {
     let mut words = [0u32; 2 * LIMIT];
     let mut output = [0u8; PRINT];
     run_large(
+        from,
+        to,
         settings,
         &mut input,
         &mut values,
@@ -106,19 +115,16 @@ fn start(settings: Settings) {
         &mut floats,
         &mut words,
         &mut output,
-    );
+    )
 }
 
-fn main() {
+fn main(rt: HostRuntime) -> io::Result<()> {
     let mut lines = [0u8; 95];
-    let n = os::arg(1, &mut lines);
+    let n = rt.arg(1, &mut lines).unwrap_or(0);
     match read_header(&lines[..n]) {
-        HeaderRead::Wrong(_) => {
-            io::write_all(STDERR_FILENO, b"the argument is no header of a session\n");
-        }
-        HeaderRead::Named(h) => {
-            let settings = h.settings;
-            start(settings);
-        }
+        HeaderRead::Wrong(_) => rt
+            .stderr()
+            .write_all(b"the argument is no header of a session\n"),
+        HeaderRead::Named(h) => start(&mut rt.stdin(), &mut rt.stdout(), h.settings),
     }
 }

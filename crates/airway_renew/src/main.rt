@@ -10,7 +10,10 @@ ghost use Rattle.prints.specs.Prints.{buffer_for, large_room, old_buffer};
 ghost use Rattle.renew.specs.Renews.{RenewProgramOf};
 
 use answer_print::show;
-use libc::{STDERR_FILENO, STDIN_FILENO, STDOUT_FILENO};
+use input_front::read_front;
+use std::env::Env;
+use std::io;
+use std::io::{Read, Write};
 use method::{Answer, Order, Settings};
 use renew::renew;
 use session_header::{HeaderRead, read_header};
@@ -39,59 +42,63 @@ fn answer(
     renew(order, settings, &buffer[..got], values, output)
 }
 
-// The lines of a refusal are written to standard error.
-fn refuse(found: Answer) {
+// The lines of a refusal are written, to standard error as it is called.
+fn refuse<E: Write>(errors: &mut E, found: Answer) -> io::Result<()> {
     let mut text = [0u8; 160];
     let none = [0i64; 1];
     let n = show(found, &none[..0], &mut text);
-    io::write_all(STDERR_FILENO, &text[..n]);
+    errors.write_all(&text[..n])
 }
 
-// A session is read from standard input, and written in the new form to standard output.
-fn run(order: Order, settings: Settings, input: &mut [u8], values: &mut [i32], output: &mut [u8])
+// A session is read from an input, and written in the new form to an output, or the lines of its refusal to errors.
+fn run<R: Read, W: Write, E: Write>(from: &mut R, to: &mut W, errors: &mut E, order: Order, settings: Settings, input: &mut [u8], values: &mut [i32], output: &mut [u8]) -> io::Result<()>
     requires { (length input.old ≡ old_buffer) × ((length values.old ≡ large_room) × (buffer_for large_room ≤ length output.old)) }
 {
-    let got = io::read_full(STDIN_FILENO, input);
+    let got = read_front(from, input)?;
     let written = answer(order, settings, input, got, values, output);
     let found = written.answer;
     let count = written.count;
     if found.number == 0 {
-        io::write_all(STDOUT_FILENO, &output[..count]);
-        return;
+        return to.write_all(&output[..count]);
     }
-    refuse(found);
+    refuse(errors, found)
 }
 
 // The same, in a buffer and rooms for 32,768 cells by their types.
-fn run_large(
+fn run_large<R: Read, W: Write, E: Write>(
+    from: &mut R,
+    to: &mut W,
+    errors: &mut E,
     order: Order,
     settings: Settings,
     input: &mut [u8; BUFFER],
     values: &mut [i32; LIMIT],
     output: &mut [u8; SESSION],
-) {
-    run(order, settings, input, values, output);
+) -> io::Result<()> {
+    run(from, to, errors, order, settings, input, values, output)
 }
 
 // The same, in arrays of its own.
-fn start(order: Order, settings: Settings) {
+fn start<R: Read, W: Write, E: Write>(from: &mut R, to: &mut W, errors: &mut E, order: Order, settings: Settings) -> io::Result<()> {
     let mut input = [0u8; BUFFER];
     let mut values = [0i32; LIMIT];
     let mut output = [0u8; SESSION];
-    run_large(order, settings, &mut input, &mut values, &mut output);
+    run_large(from, to, errors, order, settings, &mut input, &mut values, &mut output)
 }
 
-fn main() {
+fn main(rt: HostRuntime) -> io::Result<()> {
     let mut lines = [0u8; 95];
-    let n = os::arg(1, &mut lines);
+    let n = rt.arg(1, &mut lines).unwrap_or(0);
     match read_header(&lines[..n]) {
-        HeaderRead::Wrong(_) => {
-            io::write_all(STDERR_FILENO, b"the argument is no header of a session\n");
-        }
-        HeaderRead::Named(h) => {
-            let order = h.order;
-            let settings = h.settings;
-            start(order, settings);
-        }
+        HeaderRead::Wrong(_) => rt
+            .stderr()
+            .write_all(b"the argument is no header of a session\n"),
+        HeaderRead::Named(h) => start(
+            &mut rt.stdin(),
+            &mut rt.stdout(),
+            &mut rt.stderr(),
+            h.order,
+            h.settings,
+        ),
     }
 }

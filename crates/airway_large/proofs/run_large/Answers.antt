@@ -5,25 +5,18 @@ use borrow.Author.Rules.{rules}
 use Rattle.method.specs.Rooms.{byte_need, float_need, word_need}
 use Rattle.prints.specs.Prints.{large_room}
 use Rattle.prints.proofs.Fronts.{buffer_for_lem, large_room_lem}
-use Rattle.airway_large.proofs.run_large.Statement.{statement}
-use Rattle.airway_large.proofs.run_large.Tie as tie
+use Rattle.airway_large.proofs.run_large.Goals as goal
 
-run-requires : tie.Need-run-requires
+pub run-requires : goal.run-requires
 unfolding byte_need float_need word_need
-run-requires c κs = (
-  omega (arith, buffer_for_lem large_room, large_room_lem),
-  record {
+run-requires g c = record {
+  input_len = omega (arith, buffer_for_lem large_room, large_room_lem);
+  roomy = record {
     values_long = omega (arith, large_room_lem);
     pressures_long = omega (arith, large_room_lem);
     bytes_long = omega (arith, large_room_lem);
     floats_long = omega (arith, large_room_lem);
     words_long = omega (arith, large_room_lem);
     output_long = omega (arith, large_room_lem);
-  },
-)
-
-returns : tie.Need-returns
-returns c = search rules
-
-pub run-large-spec : {M : Type 1} → statement M
-run-large-spec = tie.close (tie.spec run-requires returns)
+  };
+}
