@@ -12,11 +12,11 @@ ghost use Rattle.answer_old_session.specs.OldResponds.{OldProgramOf};
 
 use answer_old_session::respond_old;
 use input_front::read_front;
+use method::Settings;
+use session_header::{HeaderRead, read_header};
 use std::env::Env;
 use std::io;
 use std::io::{Read, Write};
-use method::Settings;
-use session_header::{HeaderRead, read_header};
 
 // How many cells there is room for: as many as the greatest cast has, by which all that is lent is measured.
 const LIMIT: usize = 32768;

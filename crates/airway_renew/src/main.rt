@@ -11,13 +11,13 @@ ghost use Rattle.renew.specs.Renews.{RenewProgramOf};
 
 use answer_print::show;
 use input_front::read_front;
-use std::env::Env;
-use std::io;
-use std::io::{Read, Write};
 use method::{Answer, Order, Settings};
 use renew::renew;
 use session_header::{HeaderRead, read_header};
 use session_write::Written;
+use std::env::Env;
+use std::io;
+use std::io::{Read, Write};
 
 // How many cells there is room for: as many as the greatest cast has, by which all that is lent is measured.
 const LIMIT: usize = 32768;
@@ -51,7 +51,16 @@ fn refuse<E: Write>(errors: &mut E, found: Answer) -> io::Result<()> {
 }
 
 // A session is read from an input, and written in the new form to an output, or the lines of its refusal to errors.
-fn run<R: Read, W: Write, E: Write>(from: &mut R, to: &mut W, errors: &mut E, order: Order, settings: Settings, input: &mut [u8], values: &mut [i32], output: &mut [u8]) -> io::Result<()>
+fn run<R: Read, W: Write, E: Write>(
+    from: &mut R,
+    to: &mut W,
+    errors: &mut E,
+    order: Order,
+    settings: Settings,
+    input: &mut [u8],
+    values: &mut [i32],
+    output: &mut [u8],
+) -> io::Result<()>
     requires { (length input.old ≡ old_buffer) × ((length values.old ≡ large_room) × (buffer_for large_room ≤ length output.old)) }
 {
     let got = read_front(from, input)?;
@@ -79,11 +88,26 @@ fn run_large<R: Read, W: Write, E: Write>(
 }
 
 // The same, in arrays of its own.
-fn start<R: Read, W: Write, E: Write>(from: &mut R, to: &mut W, errors: &mut E, order: Order, settings: Settings) -> io::Result<()> {
+fn start<R: Read, W: Write, E: Write>(
+    from: &mut R,
+    to: &mut W,
+    errors: &mut E,
+    order: Order,
+    settings: Settings,
+) -> io::Result<()> {
     let mut input = [0u8; BUFFER];
     let mut values = [0i32; LIMIT];
     let mut output = [0u8; SESSION];
-    run_large(from, to, errors, order, settings, &mut input, &mut values, &mut output)
+    run_large(
+        from,
+        to,
+        errors,
+        order,
+        settings,
+        &mut input,
+        &mut values,
+        &mut output,
+    )
 }
 
 fn main(rt: HostRuntime) -> io::Result<()> {

@@ -7,12 +7,6 @@ use Rattle.prints.proofs.Fronts.{input_room_lem}
 use Rattle.answer_session.proofs.FrontLaws.{part_long, rooms_for}
 use Rattle.airway.proofs.main.Goals as goal
 
--- LOST slice-aggregate-read-full
--- search rules
-
--- LOST read-full-requires
--- search rules
-
 pub answer-count-requires : goal.answer-count-requires
 unfolding program_room
 answer-count-requires c = record {

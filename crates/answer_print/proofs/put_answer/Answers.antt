@@ -2,15 +2,6 @@
 use Rattle.answer_print.proofs.ShowLaws.{answers}
 use Rattle.answer_print.proofs.put_answer.Goals as goal
 
--- LOST slice-aggregate-put-three
--- search answers
-
--- LOST slice-aggregate-put-three-2
--- search answers
-
--- LOST slice-aggregate-put-three-3
--- search answers
-
 pub put_three-worst-requires : goal.put_three-worst-requires
 put_three-worst-requires c = search answers
 

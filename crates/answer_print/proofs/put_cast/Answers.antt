@@ -2,17 +2,11 @@
 use Rattle.answer_print.proofs.ShowLaws.{casts}
 use Rattle.answer_print.proofs.put_cast.Goals as goal
 
--- LOST slice-aggregate-put-line
--- search casts
-
 pub overflow_cast-a : goal.overflow_cast-a
 overflow_cast-a c = search casts
 
 pub put_line-depth-requires : goal.put_line-depth-requires
 put_line-depth-requires c = search casts
-
--- LOST slice-aggregate-put-line-2
--- search casts
 
 pub overflow_cast-a-2 : goal.overflow_cast-a-2
 overflow_cast-a-2 c = search casts

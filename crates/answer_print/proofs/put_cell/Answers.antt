@@ -3,8 +3,5 @@ use borrow.Author.Rules.{rules}
 use Rattle.answer_print.proofs.ShowLaws.{cell_put}
 use Rattle.answer_print.proofs.put_cell.Goals as goal
 
--- LOST slice-aggregate-put-whole
--- search rules
-
 pub returns : goal.returns
 returns c = search (rules, cell_put)

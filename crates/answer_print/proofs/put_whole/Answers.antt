@@ -8,9 +8,6 @@ size-n-requires c = search signs
 pub put_bytes-sign-requires : goal.put_bytes-sign-requires
 put_bytes-sign-requires c = search signs
 
--- LOST slice-aggregate-put-line
--- search signs
-
 pub put_line-requires : goal.put_line-requires
 put_line-requires c = search signs
 

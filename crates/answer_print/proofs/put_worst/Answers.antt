@@ -2,26 +2,17 @@
 use Rattle.answer_print.proofs.ShowLaws.{worsts}
 use Rattle.answer_print.proofs.put_worst.Goals as goal
 
--- LOST slice-aggregate-put-line
--- search worsts
-
 pub overflow_cast-a : goal.overflow_cast-a
 overflow_cast-a c = search worsts
 
 pub put_line-cell-requires : goal.put_line-cell-requires
 put_line-cell-requires c = search worsts
 
--- LOST slice-aggregate-put-line-2
--- search worsts
-
 pub overflow_cast-a-2 : goal.overflow_cast-a-2
 overflow_cast-a-2 c = search worsts
 
 pub put_line-left-requires : goal.put_line-left-requires
 put_line-left-requires c = search worsts
-
--- LOST slice-aggregate-put-whole
--- search worsts
 
 pub wide-requires : goal.wide-requires
 wide-requires c = search worsts

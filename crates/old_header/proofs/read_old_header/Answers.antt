@@ -17,9 +17,6 @@ returns-in_default c = search headers
 pub rest-second-requires : goal.rest-second-requires
 rest-second-requires c = search headers
 
--- LOST slice-aggregate-number-to
--- search headers
-
 pub number_to-requires : goal.number_to-requires
 number_to-requires c = search headers
 

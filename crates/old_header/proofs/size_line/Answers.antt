@@ -2,9 +2,6 @@
 use Rattle.old_header.proofs.OldHeaderLaws.{sizes}
 use Rattle.old_header.proofs.size_line.Goals as goal
 
--- LOST slice-aggregate-number-to
--- search sizes
-
 pub number_to-requires : goal.number_to-requires
 number_to-requires c = search sizes
 
@@ -20,9 +17,6 @@ returns-in_default c = search sizes
 pub rest-second-requires : goal.rest-second-requires
 rest-second-requires c = search sizes
 
--- LOST slice-aggregate-number-to-2
--- search sizes
-
 pub number_to-requires-2 : goal.number_to-requires-2
 number_to-requires-2 c = search sizes
 
@@ -37,9 +31,6 @@ returns-in_default-number_to c = search sizes
 
 pub rest-third-requires : goal.rest-third-requires
 rest-third-requires c = search sizes
-
--- LOST slice-aggregate-number-to-3
--- search sizes
 
 pub number_to-requires-3 : goal.number_to-requires-3
 number_to-requires-3 c = search sizes

@@ -5,9 +5,6 @@ use Rattle.old_put.proofs.put_lines.Goals as goal
 pub put_size-second-requires : goal.put_size-second-requires
 put_size-second-requires c = search both
 
--- LOST slice-aggregate-put-line
--- search both
-
 pub put_line-requires : goal.put_line-requires
 put_line-requires c = search both
 

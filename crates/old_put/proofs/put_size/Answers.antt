@@ -2,38 +2,20 @@
 use Rattle.old_put.proofs.PartLaws.{sizes}
 use Rattle.old_put.proofs.put_size.Goals as goal
 
--- LOST slice-aggregate-put-number
--- search sizes
-
 pub overflow_cast-sides : goal.overflow_cast-sides
 overflow_cast-sides c = search sizes
-
--- LOST slice-aggregate-put-number-2
--- search sizes
 
 pub put_number-second-requires : goal.put_number-second-requires
 put_number-second-requires c = search sizes
 
--- LOST slice-aggregate-put-number-3
--- search sizes
-
 pub overflow_cast-sides-2 : goal.overflow_cast-sides-2
 overflow_cast-sides-2 c = search sizes
-
--- LOST slice-aggregate-put-number-4
--- search sizes
 
 pub put_number-third-requires : goal.put_number-third-requires
 put_number-third-requires c = search sizes
 
--- LOST slice-aggregate-put-number-5
--- search sizes
-
 pub overflow_cast-sides-3 : goal.overflow_cast-sides-3
 overflow_cast-sides-3 c = search sizes
-
--- LOST slice-aggregate-put-number-6
--- search sizes
 
 pub put_number-requires : goal.put_number-requires
 put_number-requires c = search sizes

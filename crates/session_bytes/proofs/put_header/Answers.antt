@@ -2,29 +2,11 @@
 use Rattle.session_bytes.proofs.PartLaws.{headed}
 use Rattle.session_bytes.proofs.put_header.Goals as goal
 
--- LOST slice-aggregate-put-three
--- search headed
-
--- LOST slice-aggregate-put-three-2
--- search headed
-
--- LOST slice-aggregate-put-three-3
--- search headed
-
 pub put_three-fourth-requires : goal.put_three-fourth-requires
 put_three-fourth-requires c = search headed
 
 pub put_order-fifth-requires : goal.put_order-fifth-requires
 put_order-fifth-requires c = search headed
-
--- LOST slice-aggregate-put-three-4
--- search headed
-
--- LOST slice-aggregate-put-three-5
--- search headed
-
--- LOST slice-aggregate-put-three-6
--- search headed
 
 pub put_three-requires : goal.put_three-requires
 put_three-requires c = search headed

@@ -5,17 +5,11 @@ use Rattle.session_bytes.proofs.put_order.Goals as goal
 pub enum_told-1 : goal.enum_told-1
 enum_told-1 c = search ordered
 
--- LOST slice-aggregate-put-bytes
--- search ordered
-
 pub put_bytes-requires : goal.put_bytes-requires
 put_bytes-requires c = search ordered
 
 pub enum_told-in-Little : goal.enum_told-in-Little
 enum_told-in-Little c = search ordered
-
--- LOST slice-aggregate-put-bytes-2
--- search ordered
 
 pub put_bytes-requires-in-Little : goal.put_bytes-requires-in-Little
 put_bytes-requires-in-Little c = search ordered

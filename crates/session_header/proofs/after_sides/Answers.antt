@@ -21,15 +21,6 @@ returns-in_default c = search headers
 pub rest-fifth-requires : goal.rest-fifth-requires
 rest-fifth-requires c = search headers
 
--- LOST slice-aggregate-three-lines
--- search headers
-
--- LOST slice-aggregate-three-lines-2
--- search headers
-
--- LOST slice-aggregate-three-lines-3
--- search headers
-
 pub three_lines-requires : goal.three_lines-requires
 three_lines-requires c = search headers
 

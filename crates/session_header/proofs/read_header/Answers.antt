@@ -2,15 +2,6 @@
 use Rattle.session_header.proofs.HeaderLaws.{headers}
 use Rattle.session_header.proofs.read_header.Goals as goal
 
--- LOST slice-aggregate-three-lines
--- search headers
-
--- LOST slice-aggregate-three-lines-2
--- search headers
-
--- LOST slice-aggregate-three-lines-3
--- search headers
-
 pub three_lines-requires : goal.three_lines-requires
 three_lines-requires c = search headers
 

@@ -2,9 +2,6 @@
 use Rattle.text_out.proofs.PutLaws.{lines}
 use Rattle.text_out.proofs.put_line.Goals as goal
 
--- LOST slice-aggregate-put-number
--- search lines
-
 pub put_number-requires : goal.put_number-requires
 put_number-requires c = search lines
 

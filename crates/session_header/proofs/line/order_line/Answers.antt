@@ -2,17 +2,11 @@
 use Rattle.session_header.proofs.LineLaws.{lines}
 use Rattle.session_header.proofs.line.order_line.Goals as goal
 
--- LOST slice-aggregate-starts
--- search lines
-
 pub starts-requires : goal.starts-requires
 starts-requires c = search lines
 
 pub returns-then-starts : goal.returns-then-starts
 returns-then-starts c = search lines
-
--- LOST slice-aggregate-starts-2
--- search lines
 
 pub starts-requires-2 : goal.starts-requires-2
 starts-requires-2 c = search lines

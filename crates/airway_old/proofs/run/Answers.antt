@@ -1,7 +1,7 @@
--- `airway_large::run` meets its contract: what was read is answered, and just the print is written. Assumes nothing.
+-- `airway_old::run` meets its contract: what was read is answered, and just the print is written. Assumes nothing.
 use borrow.Author.Rules.{rules}
 use Rattle.answer_session.proofs.FrontLaws.{part_long}
-use Rattle.airway_large.proofs.run.Goals as goal
+use Rattle.airway_old.proofs.run.Goals as goal
 
 -- LOST read-full-requires
 -- search rules

@@ -5,12 +5,11 @@ use borrow.Author.Rules.{rules}
 use Rattle.method.specs.Rooms.{byte_need, float_need, word_need}
 use Rattle.prints.proofs.Fronts.{large_room_lem}
 use Rattle.prints.proofs.OldFronts.{old_buffer_lem}
-use Rattle.airway_old.proofs.run_large.Statement.{statement}
-use Rattle.airway_old.proofs.run_large.Tie as tie
+use Rattle.airway_old.proofs.run_large.Goals as goal
 
-run-requires : tie.Need-run-requires
+pub run-requires : goal.run-requires
 unfolding byte_need float_need word_need
-run-requires c κs = (
+run-requires c = (
   (omega (arith, old_buffer_lem, large_room_lem), omega (arith, large_room_lem)),
   record {
     values_long = omega (arith, large_room_lem);
@@ -21,9 +20,3 @@ run-requires c κs = (
     output_long = omega (arith, large_room_lem);
   },
 )
-
-returns : tie.Need-returns
-returns c = search rules
-
-pub run-large-spec : {M : Type 1} → statement M
-run-large-spec = tie.close (tie.spec run-requires returns)
