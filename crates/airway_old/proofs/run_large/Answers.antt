@@ -9,14 +9,14 @@ use Rattle.airway_old.proofs.run_large.Goals as goal
 
 pub run-requires : goal.run-requires
 unfolding byte_need float_need word_need
-run-requires c = (
-  (omega (arith, old_buffer_lem, large_room_lem), omega (arith, large_room_lem)),
-  record {
+run-requires g c = record {
+  input_len = (omega (arith, old_buffer_lem, large_room_lem), omega (arith, large_room_lem));
+  roomy = record {
     values_long = omega (arith, large_room_lem);
     pressures_long = omega (arith, large_room_lem);
     bytes_long = omega (arith, large_room_lem);
     floats_long = omega (arith, large_room_lem);
     words_long = omega (arith, large_room_lem);
     output_long = omega (arith, large_room_lem);
-  },
-)
+  };
+}

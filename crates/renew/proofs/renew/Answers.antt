@@ -14,9 +14,9 @@ returns-then-answer-ne0 c = search renewing
 
 pub write_new-requires : goal.write_new-requires
 write_new-requires c = record {
-    values_in_bounds = search renewing;
-    old_is_read = search renewing;
-  }
+  values_in_bounds = search renewing;
+  old_is_read = search renewing;
+}
 
 pub shape_of-values : goal.shape_of-values
 shape_of-values c = search renewing
