@@ -1,6 +1,6 @@
 -- Document 01, cases a, b, c and f, by the code: these casts meet what `test`, `write_ticks` and `residual_at` require,
 -- and what they ensure gives what the document says. Assumes nothing.
-use mathlib.Core.Path.{◌≡◌, refl, ◌∙◌}
+use mathlib.Core.Path.{◌≡◌, refl}
 use mathlib.Core.List.{List, [], ◌∷◌}
 use Prim.Native.Nat.{ℕ, ◌<◌}
 use native.Mathlib.Omega.{arith}

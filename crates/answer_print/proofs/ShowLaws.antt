@@ -6,13 +6,12 @@ use Prim.Native.Nat.{ℕ, zero, suc, ◌+◌, ◌*◌, ◌^◌, ◌≤◌, ◌<�
 use native.Mathlib.Numerals.{add-one}
 use native.Mathlib.Omega.{arith}
 use borrow.Author.Rules.{rules}
-use lib.Dec.{T}
 use lib.ListN.{length, get_or, take}
 use lib.Seq.{take-suc, take_all}
-use lib.IntN.{ℤ, pos, negsuc, nat_abs, ◌-ℤ◌}
-use lib.Signed.{lt_z, non_neg, mag}
+use lib.IntN.{ℤ, pos, negsuc, nat_abs}
+use lib.Signed.{lt_z, mag}
 use mir.Syntax.{w32, w64}
-use mir.Val.{Fits, SFits, to_z, of_z}
+use mir.Val.{SFits, to_z, of_z}
 use mir.Facts.{to_z-of_z}
 use Rattle.laws.specs.Text.{text}
 use Rattle.method.specs.declared.Answer.{Answer}

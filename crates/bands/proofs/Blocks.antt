@@ -15,7 +15,6 @@ use Rattle.method.specs.declared.Sides.{Sides}
 use Rattle.method.specs.Cast.{cells, number}
 use Rattle.method.specs.Levels.{half, halved}
 use Rattle.theory.specs.Sides.{Fit}
-use Rattle.theory.proofs.Sizes.{halved_fit}
 use Rattle.theory.proofs.Numbers.{number_in, number_coordinates}
 use Rattle.grid.specs.declared.place.Spot.{Spot}
 use Rattle.grid.specs.Place.{SpotOf, in_box, place_at}

@@ -1,7 +1,7 @@
 -- What a caller of `cycle` needs: that the rooms which `all_labels` and `all_lists` leave are prepared, what a room is
 -- with a zero at its end, and that the promise is one result. Assumes nothing.
 use Prim.Native.Nat.{ℕ, zero, suc, ◌+◌, ◌-◌, ◌*◌, ◌≤◌, ◌<◌}
-use mathlib.Core.Path.{◌≡◌, refl, sym, ap, ap₂, subst, ◌∙◌}
+use mathlib.Core.Path.{◌≡◌, refl, sym, ap, subst, ◌∙◌}
 use mathlib.Core.Logic.{⊎_elim}
 use mathlib.Core.Bool.{cond}
 use mathlib.Core.List.{List, ◌++◌}

@@ -12,7 +12,7 @@ use mir.Syntax.{w64}
 use mir.Val.{Fits}
 use lib.Dec.{ltb}
 use lib.ListN.{length, get_or, take, drop, length-append, length-drop}
-use lib.Seq.{take_at, drop_at, length-take-le, drop-drop, take-take, take-append-le}
+use lib.Seq.{drop_at, length-take-le, drop-drop, take-take, take-append-le}
 use lib.Ieee.{Float}
 use Rattle.laws.proofs.Lists.{length_tab}
 use Rattle.laws.proofs.Fill.{part_take}

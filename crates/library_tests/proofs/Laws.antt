@@ -6,7 +6,7 @@ use mathlib.Core.Bool.{Bool, true}
 use mathlib.Core.List.{List}
 use native.Mathlib.Omega.{arith}
 use borrow.Author.Rules.{rules}
-use lib.ListN.{length, set, length-set}
+use lib.ListN.{length, set}
 use lib.IntN.{ℤ, pos}
 use lib.Ieee.{Float}
 use mir.Syntax.{w64}
@@ -15,7 +15,6 @@ use mir.Facts.{to_z-of_z}
 use Rattle.laws.specs.Binary64.{+0}
 use Rattle.method.specs.declared.Sides.{Sides}
 use Rattle.method.specs.declared.Found.TheVariants.{Nowhere, At}
-use Rattle.method.specs.declared.Settings.{Settings}
 use Rattle.method.specs.declared.Tick.{Tick}
 use Rattle.method.specs.declared.Tick.TheVariants.{Whole, Refused}
 use Rattle.method.specs.Cast.{cells, sides_fit, judged, interior}
@@ -37,14 +36,13 @@ use Rattle.bands.specs.AllLists.{base_labels, AllListed, ListsAsked}
 use Rattle.levels.proofs.Calls.{base_is, labels_asked}
 use Rattle.bands.proofs.Calls.{base_labels_lem, lists_asked}
 use Rattle.smooth.specs.Fields.{u_of, b_of}
-use Rattle.cycle.specs.Strokes.{Ended, Put}
+use Rattle.cycle.specs.Strokes.{Ended}
 use Rattle.cycle.specs.Rooms.{Ready, cells_of, cycle_from, fields_from, Cycled}
 use Rattle.cycle.proofs.Laws.{put_then}
 use Rattle.cycle.proofs.Calls.{prepared_from, ready_first, fields_most, zero_end, zero_part, cycled_end}
 use Rattle.library_tests.specs.Run.{Asked, CycleOf, SealedAs, WalkOf, TickAs, TickOf, PartOf}
 use Rattle.text_out.specs.Puts as Puts
 use Rattle.library_tests.specs.declared.Walk.{Walk}
-use Rattle.library_tests.specs.declared.Ticked.{Ticked}
 use Rattle.distances.specs.declared.Walked.{Walked}
 use Rattle.distances.specs.Search.{Roomy, Measured}
 

@@ -2,14 +2,13 @@
 -- hand cases by the code. Assumes nothing.
 use Prim.Native.Nat.{ℕ, ◌<◌, ◌≤◌}
 use mathlib.Core.Path.{◌≡◌, refl, sym, ap, ◌∙◌}
-use mathlib.Core.List.{List, [], ◌∷◌, ◌++◌}
-use lib.ListN.{replicate}
-use lib.IntN.{ℤ, pos, negsuc, nat_abs}
+use mathlib.Core.List.{List}
+use lib.IntN.{ℤ, pos, nat_abs}
 use lib.Ieee.{Float}
 use Rattle.laws.specs.Whole.{◌-ᶻ◌, ◌*ᶻ◌}
 use Rattle.method.specs.declared.Answer.{Answer}
 use Rattle.method.specs.Cast.{label_at, field}
-use Rattle.method.specs.Solving.{Solved, solving}
+use Rattle.method.specs.Solving.{solving}
 use Rattle.method.specs.Many.{AskedMany, SolvedMany, many_size, fields, field_count, stretch, single, solving_many}
 use Rattle.theory.specs.Exact.{Solves, bound}
 use Rattle.many_checks.specs.ManyAnswered.{AnswerOfSet}

@@ -1,9 +1,9 @@
 -- The entry point: what is known once no check before 7 fails, and what everything lent holds at the end. Assumes
 -- nothing.
-use Prim.Native.Nat.{ℕ, ◌+◌, ◌-◌, ◌*◌, ◌≤◌, ◌<◌}
-use mathlib.Core.Path.{◌≡◌, refl, sym, ap, ap₂, ◌∙◌}
-use mathlib.Core.Bool.{Bool, true, false, not, ◌&&◌}
-use mathlib.Core.List.{List, [], ◌∷◌, ◌++◌}
+use Prim.Native.Nat.{ℕ, ◌+◌, ◌-◌, ◌*◌, ◌≤◌}
+use mathlib.Core.Path.{◌≡◌, refl, sym, ap, ◌∙◌}
+use mathlib.Core.Bool.{true, ◌&&◌}
+use mathlib.Core.List.{List}
 use native.Mathlib.Omega.{arith}
 use borrow.Author.Rules.{rules}
 use borrow.Rule.Slice.PartMut.{mid_of, put_mid, same_len_mid}
@@ -17,12 +17,11 @@ use Rattle.method.specs.declared.Sides.{Sides}
 use Rattle.method.specs.declared.Settings.{Settings}
 use Rattle.method.specs.declared.Answer.{Answer}
 use Rattle.method.specs.declared.Found.TheVariants.{Nowhere}
-use Rattle.method.specs.Cast.{cells, sides_fit, settings_fit, bad_label, interior}
+use Rattle.method.specs.Cast.{sides_fit, settings_fit, interior}
 use Rattle.method.specs.Walks.{sealed}
 use Rattle.method.specs.Answers.{Verdict, passed, refused, verdict, refusal}
 use Rattle.method.specs.Rooms.{byte_need, float_need, word_need, cleared}
-use Rattle.method.specs.Many.{AskedMany, SolvedMany, many_size, sets_fit, many_lengths_fit, many_checks_before7, many_untouched, many_handed_back, solving_many}
-use Rattle.theory.specs.Sides.{Fit}
+use Rattle.method.specs.Many.{AskedMany, SolvedMany, sets_fit, many_lengths_fit, many_checks_before7, many_untouched, many_handed_back, solving_many}
 use Rattle.theory.proofs.Sides.{fit}
 use Rattle.theory.proofs.Verdicts.{AllPass, all_pass, no_fault, no_fault'}
 use Rattle.grid.proofs.Steps.{cells_most}
@@ -35,7 +34,7 @@ use Rattle.many_checks.specs.declared.Lengths.{Lengths}
 use Rattle.many_checks.specs.ManyRulings.{lengths_of, many_ruling}
 use Rattle.many_checks.proofs.ManyJudging.{many_ruled}
 use Rattle.many_checks.proofs.ManyLaws.{Lent, lent}
-use Rattle.many_sets.specs.Sets.{Past, SameCall, SetsAsked}
+use Rattle.many_sets.specs.Sets.{Past, SameCall}
 use Rattle.many.specs.ManySolve.{asked_many, SolveManyOf, ManyChecked, many_from_seven, ManyWorked}
 
 -- ---- `solving_many`, by what the checks before 7 say

@@ -1,15 +1,14 @@
 -- Past check 6: what the parts ask, and what they come to. Assumes nothing.
-use Prim.Native.Nat.{ℕ, ◌+◌, ◌-◌, ◌*◌, ◌≤◌, ◌<◌}
+use Prim.Native.Nat.{ℕ, ◌≤◌}
 use mathlib.Core.Path.{◌≡◌, refl, sym, ap, ap₂, ◌∙◌}
-use mathlib.Core.Bool.{Bool, true, false, ◌&&◌, false≢true}
+use mathlib.Core.Bool.{Bool, true, false, false≢true}
 use mathlib.Core.List.{List, []}
-use native.Mathlib.Nat.{le_refl}
 use native.Mathlib.Omega.{arith}
 use borrow.Author.Rules.{rules}
 use borrow.Author.Tests.{eq-eqb, le-leb, le-ltb}
-use lib.Dec.{T, ltb, leb, eqb}
+use lib.Dec.{T, ltb, leb}
 use lib.IntN.{ℤ, pos, nat_abs}
-use lib.ListN.{length, replicate, length-replicate, get_or, get_or-replicate}
+use lib.ListN.{length, replicate, length-replicate, get_or-replicate}
 use Rattle.laws.specs.Binary64.{+0}
 use Rattle.method.specs.declared.Sides.{Sides}
 use Rattle.method.specs.declared.Settings.{Settings}
@@ -23,7 +22,6 @@ use Rattle.method.specs.Answers.{check, Verdict, passed, refused, verdict, refus
 use Rattle.method.specs.Rooms.{byte_need, float_need, word_need}
 use Rattle.method.specs.Solving.{Asked, lengths_fit, checks_before7}
 use Rattle.method.specs.Many.{AskedMany, SolvedMany, many_checks_from7, many_handed_back, end_to_end, set_pressures, set_fields}
-use Rattle.theory.specs.Walks.{Walk}
 use Rattle.theory.specs.Sides.{Fit}
 use Rattle.theory.proofs.Sides.{fit}
 use Rattle.theory.proofs.Verdicts.{AllPass, all_pass}
@@ -39,7 +37,7 @@ use Rattle.solve.specs.Work.{PrepareAsked, PlanOf}
 use Rattle.solve.proofs.Working.{of_cast}
 use Rattle.solve.proofs.Judging.{both}
 use Rattle.solve.proofs.Solving.{in_range}
-use Rattle.many_sets.specs.Sets.{Past, CastReady, SameSet, SameCall, SetsOf}
+use Rattle.many_sets.specs.Sets.{Past, CastReady, SetsOf}
 use Rattle.many_sets.proofs.Setting.{five_passes}
 use Rattle.many.specs.ManySolve.{ManyChecked, many_from_seven, ManyWorked}
 

@@ -4,12 +4,11 @@ use Rattle.method.specs.declared.Sides.{Sides}
 use Rattle.method.specs.declared.Settings.{Settings}
 use Rattle.method.specs.declared.Answer.{Answer}
 use Rattle.method.specs.declared.Found.TheVariants.{Nowhere}
-use Rattle.method.specs.Cast.{cells, label_at, sides_fit, settings_fit, bad_label, interior}
+use Rattle.method.specs.Cast.{cells, sides_fit}
 use Rattle.method.specs.Walks.{sealed}
 use Rattle.method.specs.Answers.{passed, refused, verdict, refusal, done}
 use Rattle.method.specs.Rooms.{byte_need, float_need, word_need}
 use Rattle.method.specs.Many.{AskedMany, SolvedMany, many_checks_from7, many_handed_back, end_to_end, set_pressures, set_fields, solving_many}
-use Rattle.theory.specs.Walks.{Walk}
 use Rattle.many_sets.specs.Sets.{Past, SameCall, SetsAsked}
 
 -- what is handed in and lent

@@ -1,8 +1,8 @@
 -- Each set of a call of many sets has exactly what its single call gives; so question 3 and what an accepted answer
 -- is hold of each set's answer. Assumes nothing.
 use Prim.Native.Nat.{ℕ, ◌<◌, ◌≤◌}
-use mathlib.Core.Path.{◌≡◌, refl, sym, ap, ap₂, subst, ◌∙◌}
-use mathlib.Core.List.{List, [], append-nil}
+use mathlib.Core.Path.{◌≡◌, refl, sym, ap, subst, ◌∙◌}
+use mathlib.Core.List.{[], append-nil}
 use native.Mathlib.Omega.{arith}
 use lib.IntN.{ℤ, pos, nat_abs}
 use Rattle.laws.specs.Whole.{◌-ᶻ◌, ◌*ᶻ◌}

@@ -2,7 +2,7 @@
 use Prim.Native.Nat.{ℕ, zero, suc, ◌+◌, ◌*◌, ◌^◌, ◌≤◌, ◌<◌}
 use mathlib.Core.Path.{◌≡◌, refl, sym, ap, ap₂, ◌∙◌}
 use mathlib.Core.Bool.{Bool, true, false, not, ◌&&◌, cond, false≢true}
-use mathlib.Core.List.{List, [], ◌∷◌}
+use mathlib.Core.List.{List}
 use native.Mathlib.Nat.{mul-le-mul}
 use native.Mathlib.Omega.{arith}
 use borrow.Author.Rules.{rules}
@@ -12,20 +12,20 @@ use lib.ListN.{length}
 use Rattle.method.specs.declared.Sides.{Sides}
 use Rattle.method.specs.declared.Settings.{Settings}
 use Rattle.method.specs.declared.Found.{Found}
-use Rattle.method.specs.Cast.{cells, between, sides_fit, settings_fit, interior, first, bad_label}
+use Rattle.method.specs.Cast.{cells, sides_fit, settings_fit, interior, first}
 use Rattle.method.specs.Answers.{verdict, fault}
 use Rattle.method.specs.Rooms.{byte_need, float_need, word_need}
 use Rattle.theory.specs.Sides.{Fit}
 use Rattle.theory.proofs.Sides.{fit}
 use Rattle.checks.specs.declared.Ruling.{Ruling}
-use Rattle.checks.specs.declared.Ruling.TheVariants.{Refused, Allowed}
+use Rattle.checks.specs.declared.Ruling.TheVariants.{Refused}
 use Rattle.checks.specs.Rulings.{ruling_of, ruling_by, first_of}
 use Rattle.checks.specs.Faults.{bad_label_at}
 use Rattle.theory.proofs.Verdicts.{fails_at, passes_on, fault_no, fault_yes}
 use Rattle.checks.proofs.RuleLaws.{ruling_more, ruling_last}
 use Rattle.checks.proofs.CheckLaws.{between_low, between_rest, label_fault_lem}
 use Rattle.many_checks.specs.declared.Lengths.{Lengths}
-use Rattle.method.specs.Many.{AskedMany, many_size, field_count, sets_fit, many_lengths_fit, many_checks_before7}
+use Rattle.method.specs.Many.{AskedMany, many_size, sets_fit, many_lengths_fit, many_checks_before7}
 use Rattle.many_checks.specs.ManyRulings.{lengths_of, lengths_by, content_ruling, many_ruling}
 
 -- a product of any u32 with at most 32,768 does not wrap

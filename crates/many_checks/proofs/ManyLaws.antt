@@ -1,19 +1,18 @@
 -- One cast with many sets: stretches laid end to end, and each set's single call. Assumes nothing.
-use Prim.Native.Nat.{ℕ, zero, suc, ◌+◌, ◌-◌, ◌*◌, ◌≤◌, ◌<◌}
+use Prim.Native.Nat.{ℕ, zero, suc, ◌+◌, ◌*◌, ◌≤◌, ◌<◌}
 use mathlib.Core.Path.{◌≡◌, refl, sym, ap, ap₂, ◌∙◌}
-use mathlib.Core.Logic.{◌⊎◌, inl, inr, ⊎_elim}
-use mathlib.Core.Bool.{Bool, true, false, not, ◌&&◌, false≢true}
-use mathlib.Core.List.{List, [], ◌∷◌, ◌++◌, append_assoc}
+use mathlib.Core.Logic.{⊎_elim}
+use mathlib.Core.Bool.{Bool, true, false, ◌&&◌, false≢true}
+use mathlib.Core.List.{List, ◌++◌, append_assoc}
 use native.Mathlib.Nat.{mul-le-mul, le_refl}
 use native.Mathlib.Omega.{arith}
 use borrow.Author.Tests.{eq-eqb, le-leb, eqb-true, leb-true}
 use lib.Dec.{leb, eqb}
 use lib.IntN.{ℤ, pos, nat_abs}
 use lib.ListN.{length, get_or, take, drop, length-append, length-drop}
-use lib.Seq.{take_at, drop_at, length-take-le, take-append-le, drop-append-le}
+use lib.Seq.{take_at, drop_at, length-take-le}
 use Rattle.laws.proofs.Naturals.{le_or_lt}
 use Rattle.method.specs.declared.Answer.{Answer}
-use Rattle.method.specs.Cast.{cells}
 use Rattle.method.specs.Rooms.{byte_need, float_need, word_need}
 use Rattle.method.specs.Solving.{Asked, size, Solved, lengths_fit, checks_before7, untouched, handed_back, solving}
 use Rattle.theory.proofs.Verdicts.{AllPass, no_fault}

@@ -1,11 +1,11 @@
 -- One set: its checks, and what its rounds come to, are the single call's. Assumes nothing.
-use Prim.Native.Nat.{ℕ, zero, suc, ◌+◌, ◌-◌, ◌*◌, ◌^◌, ◌≤◌, ◌<◌}
-use mathlib.Core.Path.{◌≡◌, refl, sym, ap, ap₂, ◌∙◌}
-use mathlib.Core.Bool.{Bool, true, false, not, ◌&&◌, false≢true}
-use mathlib.Core.List.{List, [], ◌∷◌, ◌++◌}
+use Prim.Native.Nat.{ℕ, ◌^◌, ◌≤◌, ◌<◌}
+use mathlib.Core.Path.{◌≡◌, refl, sym, ap, ◌∙◌}
+use mathlib.Core.Bool.{true, not}
+use mathlib.Core.List.{List, [], ◌∷◌}
 use native.Mathlib.Omega.{arith}
 use borrow.Author.Rules.{rules}
-use lib.Dec.{leb, eqb}
+use lib.Dec.{eqb}
 use lib.IntN.{ℤ, pos}
 use lib.ListN.{length, set}
 use mir.Syntax.{w32, w64}
@@ -16,15 +16,14 @@ use Rattle.method.specs.declared.Settings.{Settings}
 use Rattle.method.specs.declared.Answer.{Answer}
 use Rattle.method.specs.declared.Found.{Found}
 use Rattle.method.specs.declared.Found.TheVariants.{Nowhere, At}
-use Rattle.method.specs.Cast.{Cast, cells, first, between, sides_fit, settings_fit, bad_label, bad_value, interior}
+use Rattle.method.specs.Cast.{Cast, cells, first, between, sides_fit, settings_fit, bad_value, interior}
 use Rattle.method.specs.Walks.{sealed}
-use Rattle.method.specs.Answers.{Verdict, passed, refused, verdict, refusal, fault}
+use Rattle.method.specs.Answers.{passed, refused, verdict, refusal, fault}
 use Rattle.method.specs.Rooms.{float_need}
 use Rattle.method.specs.Solving.{Asked, Solved, lengths_fit, checks_before7, untouched, handed_back, solving}
 use Rattle.method.specs.Cast.{label_fault, value_fault}
-use Rattle.theory.specs.Sides.{Fit}
 use Rattle.theory.proofs.Sides.{fit}
-use Rattle.theory.proofs.Verdicts.{AllPass, pass_all, fault_no}
+use Rattle.theory.proofs.Verdicts.{pass_all, fault_no}
 use Rattle.grid.proofs.Steps.{cells_most}
 use Rattle.checks.specs.Faults.{bad_value_at}
 use Rattle.theory.proofs.Verdicts.{fails_at, passes_on, fault_no}
@@ -32,7 +31,7 @@ use Rattle.checks.proofs.CheckLaws.{value_fault_lem}
 use Rattle.answers.specs.declared.Measured.{Measured}
 use Rattle.rounds.specs.declared.Plan.{Plan}
 use Rattle.rounds.specs.Rounds.{cast_of}
-use Rattle.solve.specs.Work.{PlanOf, RunAsked, Ran, Worked, from_seven}
+use Rattle.solve.specs.Work.{RunAsked, Ran, Worked}
 use Rattle.solve.proofs.Working.{worked_run}
 use Rattle.solve.proofs.Judging.{both}
 use Rattle.solve.proofs.Solving.{in_range, past_six, before_seven}

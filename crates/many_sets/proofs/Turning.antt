@@ -1,29 +1,26 @@
 -- A set in its stretch, and one stretch after the other. Assumes nothing.
-use Prim.Native.Nat.{ℕ, zero, suc, ◌+◌, ◌-◌, ◌*◌, ◌^◌, ◌≤◌, ◌<◌}
-use mathlib.Core.Path.{◌≡◌, refl, sym, ap, ap₂, ◌∙◌}
-use mathlib.Core.Bool.{true}
-use mathlib.Core.List.{List, [], ◌∷◌, ◌++◌, append_assoc, append-nil}
+use Prim.Native.Nat.{ℕ, suc, ◌+◌, ◌-◌, ◌*◌, ◌^◌, ◌≤◌, ◌<◌}
+use mathlib.Core.Path.{◌≡◌, sym, ap, ap₂, ◌∙◌}
+use mathlib.Core.List.{List, [], ◌++◌, append_assoc, append-nil}
 use native.Mathlib.Nat.{mul-le-mul}
 use native.Mathlib.Omega.{arith}
 use native.Mathlib.Numerals.{add-one}
-use borrow.Author.Rules.{rules}
 use borrow.Rule.Slice.PartMut.{mid_of, put_mid, Post-is, mid_len}
 use lib.IntN.{ℤ}
-use lib.ListN.{length, take, drop, length-append, length-drop}
+use lib.ListN.{length, take, drop}
 use lib.Seq.{take_at, drop_at, drop-drop, drop-length}
 use Rattle.method.specs.declared.Sides.{Sides}
 use Rattle.method.specs.declared.Settings.{Settings}
 use Rattle.method.specs.declared.Answer.{Answer}
 use Rattle.method.specs.Cast.{cells}
-use Rattle.method.specs.Solving.{Asked, solving}
 use Rattle.theory.proofs.Sides.{fit}
 use Rattle.grid.proofs.Steps.{cells_most}
 use Rattle.answers.specs.declared.Measured.{Measured}
 use Rattle.rounds.specs.declared.Plan.{Plan}
 use Rattle.rounds.specs.Rounds.{cast_of}
-use Rattle.method.specs.Many.{AskedMany, many_size, fields, field_count, stretch, end_to_end, single, many_lengths_fit, set_pressures, set_fields}
+use Rattle.method.specs.Many.{many_size, fields, field_count, stretch, end_to_end, single, set_pressures, set_fields}
 use Rattle.many_checks.proofs.ManyLaws.{next_start, stretch_ends, laid_length, Lent, lent, single_fits, set_pressures_length, set_fields_length}
-use Rattle.many_sets.specs.Sets.{CastReady, SameSet, SetOf, part, placed, Turned, SameCall, Done, SetsOf, SetsAsked}
+use Rattle.many_sets.specs.Sets.{CastReady, SameSet, SetOf, part, placed, Turned, Done, SetsOf}
 
 -- ---- the part that a set is lent
 pub part_length : {A : Type 0} (from m n : ℕ) (l : List A) → m ≡ n → from + n ≤ length l → length (mid_of from (from + m - from) l) ≡ n

@@ -8,7 +8,7 @@ use Rattle.method.specs.Cast.{cells, sides_fit, settings_fit, bad_label, interio
 use Rattle.method.specs.Walks.{sealed}
 use Rattle.method.specs.Rooms.{float_need}
 use Rattle.method.specs.Solving.{Asked, lengths_fit, solving}
-use Rattle.method.specs.Many.{AskedMany, many_size, fields, field_count, end_to_end, many_lengths_fit, set_pressures, set_fields}
+use Rattle.method.specs.Many.{AskedMany, fields, field_count, end_to_end, many_lengths_fit, set_pressures, set_fields}
 use Rattle.answers.specs.declared.Measured.{Measured}
 use Rattle.rounds.specs.declared.Plan.{Plan}
 use Rattle.rounds.specs.Rounds.{cast_of}

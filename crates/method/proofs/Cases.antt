@@ -1,10 +1,10 @@
 -- Document 01, "Numbers to check by hand", a to l, with c, i and j as document 02 has them (wishes 5, 4 and 3), and the
 -- example of "The program": one table, one claim, computed by the checker. Assumes nothing.
-use Prim.Native.Nat.{ℕ, zero, suc, ◌+◌, ◌-◌, ◌*◌, ◌^◌}
+use Prim.Native.Nat.{ℕ, ◌+◌, ◌-◌, ◌*◌, ◌^◌}
 use mathlib.Core.Bool.{true, false}
 use mathlib.Core.Path.{◌≡◌, refl}
 use mathlib.Core.List.{List, [], ◌∷◌, ◌++◌, map}
-use lib.ListN.{get_or, replicate}
+use lib.ListN.{replicate}
 use lib.IntN.{ℤ, pos, negsuc}
 use lib.Ieee.{Float, nan, fin}
 use Rattle.laws.specs.Binary64.{+0}
@@ -12,15 +12,13 @@ use Rattle.laws.specs.Text.{text}
 use Rattle.laws.proofs.Table.{Case, AllHold, holds_at}
 use Rattle.method.specs.declared.Sides.{Sides}
 use Rattle.method.specs.declared.Answer.{Answer}
-use Rattle.method.specs.declared.Order.{Order}
 use Rattle.method.specs.declared.Order.TheVariants.{Big, Little}
-use Rattle.method.specs.declared.Tick.{Tick}
 use Rattle.method.specs.declared.Tick.TheVariants.{Whole, Refused}
 use Rattle.method.specs.Cast.{Cast, residual, field}
-use Rattle.method.specs.Form.{value_read, value_written}
+use Rattle.method.specs.Form.{value_read}
 use Rattle.method.specs.Transfers.{restricted, prolongated, value}
 use Rattle.method.specs.Ticks.{tick}
-use Rattle.method.specs.Rounds.{State, Turn, stalled, turned, start, round}
+use Rattle.method.specs.Rounds.{Turn, stalled, turned, start, round}
 use Rattle.method.specs.Solving.{Asked, Solved, solving}
 use Rattle.method.specs.Program.{program}
 use Rattle.method.specs.Computing.{computing}

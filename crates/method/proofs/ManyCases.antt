@@ -1,12 +1,12 @@
 -- Hand cases of one cast with many sets: each set gets its own answer; a fault of a set is its own. Assumes nothing.
 use Prim.Native.Nat.{ℕ}
-use mathlib.Core.Path.{◌≡◌, refl}
+use mathlib.Core.Path.{refl}
 use mathlib.Core.List.{List, [], ◌∷◌, ◌++◌}
 use lib.ListN.{replicate}
 use lib.IntN.{ℤ, pos}
-use Rattle.laws.proofs.Table.{Case, AllHold, holds_at}
+use Rattle.laws.proofs.Table.{Case, AllHold}
 use Rattle.laws.specs.Binary64.{+0}
-use Rattle.method.specs.Many.{AskedMany, SolvedMany, many_untouched, solving_many}
+use Rattle.method.specs.Many.{AskedMany, many_untouched, solving_many}
 use Rattle.method.specs.Answers.{refusal, done}
 use Rattle.method.specs.Computing.{computing}
 use Rattle.method.proofs.Cases.{case, row, five}

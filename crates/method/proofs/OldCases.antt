@@ -1,6 +1,6 @@
 -- Hand cases of the old session form (document 02, wish 2): one table, one claim, computed by the checker. Assumes
 -- nothing.
-use Prim.Native.Nat.{ℕ, zero, suc, ◌+◌, ◌*◌}
+use Prim.Native.Nat.{ℕ}
 use mathlib.Core.Path.{◌≡◌, refl}
 use mathlib.Core.Bool.{true, false}
 use mathlib.Core.List.{List, [], ◌∷◌, ◌++◌, map}
@@ -8,12 +8,9 @@ use lib.ListN.{replicate}
 use lib.IntN.{ℤ, pos, negsuc}
 use Rattle.laws.specs.Text.{text}
 use Rattle.laws.proofs.Table.{Case, AllHold, holds_at}
-use Rattle.method.specs.declared.Sides.{Sides}
 use Rattle.method.specs.declared.Settings.{Settings}
-use Rattle.method.specs.declared.Answer.{Answer}
-use Rattle.method.specs.Cast.{Cast}
 use Rattle.method.specs.Writing.{Written}
-use Rattle.method.specs.OldForm.{OldReading, OldRead, old_reading, OldWriting, old_writing, old_value_read, old_value_written, expressible}
+use Rattle.method.specs.OldForm.{OldReading, OldRead, old_reading, OldWriting, old_writing, expressible}
 use Rattle.method.specs.Computing.{computing}
 use Rattle.method.proofs.Cases.{case, answer, cast, row}
 

@@ -12,7 +12,7 @@ use Rattle.method.specs.Form.{header}
 use Rattle.method.specs.Solving.{solving}
 use Rattle.method.specs.OldForm.{old_header, old_reader_checks}
 use Rattle.method.specs.Program.{program_room, program_checks, asked, shown, print, printed, program}
-use Rattle.method.specs.OldProgram.{old_taken, old_posed, old_printed, Renewal, renewal}
+use Rattle.method.specs.OldProgram.{old_taken, old_posed, old_printed, renewal}
 use Rattle.method.specs.Computing.{computing}
 use Rattle.method.proofs.Cases.{case, example}
 use Rattle.method.proofs.OldCases.{plain, smallest}

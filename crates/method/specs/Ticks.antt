@@ -2,7 +2,6 @@
 use Rattle.std.specs.Prelude.{ℕ, ◌+◌, ◌*◌, ◌/◌, ◌%◌, ◌^◌, Bool, true, false, not, ◌&&◌, cond, List, map, eqb, ltb, leb, ℤ, pos, neg_ℤ, Float}
 use Rattle.std.specs.Float.Ieee as Ieee
 use Rattle.std.specs.Float.{nan, inf, fin}
-use Rattle.laws.specs.Loops.{up}
 use Rattle.laws.specs.Lists.{tab, any}
 use Rattle.method.specs.declared.Settings.{Settings}
 use Rattle.method.specs.declared.Tick.{Tick}

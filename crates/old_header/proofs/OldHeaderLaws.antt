@@ -1,8 +1,7 @@
 -- Laws of the two lines. Assumes nothing.
 use mathlib.Core.Path.{◌≡◌, refl, sym, ap, ◌∙◌}
-use mathlib.Core.Bool.{Bool}
 use mathlib.Core.List.{List, [], ◌∷◌}
-use Prim.Native.Nat.{ℕ, suc, ◌+◌, ◌^◌, ◌≤◌, ◌<◌}
+use Prim.Native.Nat.{ℕ, ◌+◌, ◌^◌, ◌≤◌, ◌<◌}
 use native.Mathlib.Omega.{arith}
 use borrow.Author.Rules.{rules}
 use borrow.Author.Tests.{le-leb, lt-leb}
@@ -13,9 +12,8 @@ use lib.ListN.{length, drop, length-drop}
 use lib.Seq.{drop-drop}
 use Rattle.laws.specs.Text.{text}
 use Rattle.method.specs.declared.Sides.{Sides}
-use Rattle.method.specs.declared.Found.TheVariants.{At}
 use Rattle.method.specs.Cast.{between}
-use Rattle.method.specs.Form.{Line, bad, good, Lines, wrong, right, more, read_lines}
+use Rattle.method.specs.Form.{Line, wrong, right, more, read_lines}
 use Rattle.method.specs.OldForm.{number_to, old_parts, line_of_part, old_header_of, old_header, old_wrong_line, old_bad_line, unit_fits}
 use Rattle.session_header.specs.Lines.{LineOf}
 use Rattle.session_header.specs.declared.LineRead.{LineRead}

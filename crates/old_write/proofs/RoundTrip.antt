@@ -1,6 +1,6 @@
 -- Round trips of the code, from the promises alone: what `write_old` wrote, `read_old` and `old_labels` hand back, with
 -- the unit; and what they accepted, `write_old` writes with that unit as the same bytes. Assumes nothing.
-use mathlib.Core.Path.{◌≡◌, refl, sym, ap, ap₂, subst, ◌∙◌}
+use mathlib.Core.Path.{◌≡◌, sym, ap, ap₂, subst, ◌∙◌}
 use mathlib.Core.Bool.{true}
 use mathlib.Core.List.{List, ◌++◌}
 use Prim.Native.Nat.{ℕ, ◌*◌, ◌≤◌}

@@ -3,7 +3,7 @@
 use mathlib.Core.Path.{◌≡◌, refl, sym, ap, ap₂, ◌∙◌}
 use mathlib.Core.Logic.{⊎_elim}
 use mathlib.Core.Bool.{Bool, true, false, not, ◌&&◌, false≢true}
-use mathlib.Core.List.{List, [], ◌∷◌, ◌++◌}
+use mathlib.Core.List.{List, ◌++◌}
 use Prim.Native.Nat.{ℕ, zero, suc, ◌+◌, ◌*◌, ◌/◌, ◌%◌, ◌^◌, ◌≤◌, ◌<◌}
 use native.Mathlib.Omega.{arith}
 use borrow.Author.Rules.{rules}
@@ -24,7 +24,7 @@ use Rattle.method.specs.declared.Found.{Found}
 use Rattle.method.specs.Cast.{cells, sides_fit, first}
 use Rattle.method.specs.Answers.{fault, passed, refused, verdict, refusal, done}
 use Rattle.method.specs.Rooms.{filled}
-use Rattle.method.specs.OldForm.{stored, fits16, expressible, not_expressible, old_header_written, old_written, unit_fits, OldWriting, old_bytes_of, old_lengths_fit, old_writer_checks, old_writing}
+use Rattle.method.specs.OldForm.{stored, fits16, expressible, not_expressible, old_written, unit_fits, OldWriting, old_bytes_of, old_lengths_fit, old_writer_checks, old_writing}
 use Rattle.theory.proofs.Firsts.{none_none, none_more, none_end, hit}
 use Rattle.theory.specs.Sides.{Fit}
 use Rattle.theory.proofs.Sides.{fit}

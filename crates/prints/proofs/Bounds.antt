@@ -9,9 +9,9 @@ use Rattle.method.specs.declared.Answer.{Answer}
 use Rattle.method.specs.Cast.{label_at, field}
 use Rattle.method.specs.Form.{header, labels_in, cast_in}
 use Rattle.method.specs.Answers.{refusal}
-use Rattle.method.specs.Solving.{Solved, solving}
+use Rattle.method.specs.Solving.{solving}
 use Rattle.method.specs.Reading.{line_check, side_check, body_check, content_checks}
-use Rattle.method.specs.Program.{program_room, program_checks, print, asked, shown, printed, program}
+use Rattle.method.specs.Program.{program_room, program_checks, print, asked, shown, program}
 use Rattle.theory.specs.Exact.{Solves, bound}
 use Rattle.theory.proofs.Verdicts.{Judged, fine, faulty, judge}
 use Rattle.theory.proofs.Question3.{question_3}

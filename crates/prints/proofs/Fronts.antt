@@ -1,7 +1,7 @@
 -- The front of a long input decides the print: a header has at most 94 bytes, and a body of more than 5 bytes for each
 -- cell that there is room for is not 5 bytes a cell. Assumes nothing.
 use mathlib.Core.Path.{◌≡◌, refl, sym, ap, ap₂, ◌∙◌}
-use mathlib.Core.Bool.{Bool, true, false, not, cond}
+use mathlib.Core.Bool.{Bool, true, false, cond}
 use mathlib.Core.List.{List, [], ◌∷◌, ◌++◌}
 use mathlib.Core.Logic.{⊎_elim}
 use mathlib.Core.Option.{Option, none, some}

@@ -3,7 +3,7 @@
 -- nothing.
 use mathlib.Core.Path.{◌≡◌, refl, sym, ap, ◌∙◌}
 use mathlib.Core.Bool.{Bool, true, false}
-use mathlib.Core.List.{List, [], ◌∷◌, ◌++◌}
+use mathlib.Core.List.{List, [], ◌++◌}
 use mathlib.Core.Logic.{⊎_elim}
 use Prim.Native.Nat.{ℕ, ◌+◌, ◌*◌, ◌≤◌}
 use native.Mathlib.Nat.{mul-le-mul}
@@ -24,13 +24,12 @@ use Rattle.method.specs.Form.{line, Lines, wrong, right, read_lines}
 use Rattle.method.specs.Answers.{Verdict, passed, refused, verdict, refusal}
 use Rattle.method.specs.Solving.{solving}
 use Rattle.method.specs.Program.{print, shown}
-use Rattle.method.specs.OldForm.{old_parts, old_header_of, old_header, old_wrong_line, old_bad_line, line_of_part, size_word, old_header_written, old_line_check, old_side_check, old_body_check, old_reader_checks}
+use Rattle.method.specs.OldForm.{old_parts, old_header_of, old_header, old_wrong_line, old_bad_line, size_word, old_header_written, old_line_check, old_side_check, old_body_check, old_reader_checks}
 use Rattle.method.specs.OldProgram.{old_taken, old_posed, old_printed, Renewal, renewal}
-use Rattle.theory.specs.Sides.{Fit}
 use Rattle.theory.proofs.Sides.{fit}
 use Rattle.theory.proofs.Verdicts.{fails_at, passes_on, fault_no, fault_yes}
 use Rattle.prints.specs.Prints.{large_room, longest_old_header, old_buffer}
-use Rattle.prints.proofs.Fronts.{lines_on, Front, Fronts, end, next, to_front, lines_on_lem, Left, lines_left, not_nowhere, large_room_lem}
+use Rattle.prints.proofs.Fronts.{lines_on, Fronts, end, next, to_front, lines_on_lem, Left, lines_left, not_nowhere, large_room_lem}
 
 -- ---- the four numbers of the two lines
 four : Fronts old_parts 42

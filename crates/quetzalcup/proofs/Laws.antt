@@ -7,7 +7,6 @@ use Prim.Native.Nat.{ℕ, ◌≤◌, ◌<◌}
 use native.Mathlib.Omega.{arith}
 use borrow.Author.Rules.{rules}
 use borrow.Author.Tests.{lt-ltb, le-ltb}
-use lib.Dec.{ltb}
 use lib.IntN.{ℤ}
 use Rattle.method.specs.declared.Sides.{Sides}
 use Rattle.method.specs.declared.Settings.{Settings}
@@ -24,7 +23,6 @@ use Rattle.session_read.specs.Reads.{ReadOf}
 use Rattle.session_write.specs.Writes.{WriteOf}
 use Rattle.session_read.specs.declared.Session.{Session}
 use Rattle.session_write.specs.declared.Written.{Written}
-use Rattle.quetzalcup.specs.declared.Read.{Read}
 use Rattle.quetzalcup.specs.Face.{need_by, order_number, unordered, written_by, ReadBack, WrittenBy}
 
 -- ---- sides in range, and out of it

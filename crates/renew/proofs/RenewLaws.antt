@@ -1,15 +1,15 @@
 -- Laws of an old session in the new form: the reader's refusal; what it accepts the writer does not refuse, and has
 -- room for. Assumes nothing.
-use mathlib.Core.Path.{◌≡◌, refl, sym, ap, ap₂, ◌∙◌, subst}
-use mathlib.Core.Bool.{Bool, true, false, not, ◌&&◌, false≢true}
-use mathlib.Core.List.{List, [], ◌++◌}
-use Prim.Native.Nat.{ℕ, suc, ◌+◌, ◌*◌, ◌^◌, ◌≤◌, ◌<◌}
+use mathlib.Core.Path.{◌≡◌, refl, sym, ap, ◌∙◌, subst}
+use mathlib.Core.Bool.{Bool, true, false, ◌&&◌, false≢true}
+use mathlib.Core.List.{List}
+use Prim.Native.Nat.{ℕ, ◌+◌, ◌^◌, ◌≤◌, ◌<◌}
 use native.Mathlib.Omega.{arith}
 use borrow.Author.Rules.{rules}
 use borrow.Author.Tests.{eq-eqb, le-leb}
-use lib.Dec.{T, eqb, leb}
+use lib.Dec.{T}
 use lib.IntN.{ℤ}
-use lib.ListN.{length, take, drop, length-append, length-drop}
+use lib.ListN.{length, take, drop, length-append}
 use lib.Seq.{length-take-le}
 use Rattle.method.specs.declared.Sides.{Sides}
 use Rattle.method.specs.declared.Order.{Order}
@@ -18,9 +18,9 @@ use Rattle.method.specs.declared.Settings.{Settings}
 use Rattle.method.specs.Cast.{Cast, between, cells, sides_fit, settings_fit}
 use Rattle.method.specs.Numbers.{decimal}
 use Rattle.method.specs.Form.{header_written, written}
-use Rattle.method.specs.Answers.{fault, passed, verdict, refusal, done}
+use Rattle.method.specs.Answers.{passed, verdict, refusal, done}
 use Rattle.method.specs.Rooms.{filled}
-use Rattle.method.specs.Writing.{Writing, Written, bytes_of, writer_lengths_fit, writer_checks, writing}
+use Rattle.method.specs.Writing.{Writing, bytes_of, writer_lengths_fit, writer_checks, writing}
 use Rattle.method.specs.OldForm.{OldReading, old_header, old_labels_in, old_values_in, old_cast_in, unit_fits, old_line_check, old_side_check, old_body_check, old_room_check, old_content_checks, old_reader_checks, old_not_read, old_is_read, old_reading}
 use Rattle.method.specs.OldProgram.{old_taken, renewal}
 use Rattle.theory.specs.Sides.{Fit}
@@ -34,7 +34,7 @@ use Rattle.old_read.specs.declared.OldSession.{OldSession}
 use Rattle.old_read.proofs.ReadLaws.{same_verdict, reading_passed}
 use Rattle.session_write.specs.declared.Written.{Written as Back}
 use Rattle.session_write.specs.Writes.{offered, WriteOf}
-use Rattle.prints.specs.Prints.{buffer_for, large_room, old_buffer}
+use Rattle.prints.specs.Prints.{buffer_for, large_room}
 use Rattle.prints.proofs.Fronts.{buffer_for_lem}
 use Rattle.prints.proofs.OldFronts.{renewal_refused, old_front_renews}
 use Rattle.answer_session.proofs.RespondLaws.{cast_eq}

@@ -1,11 +1,10 @@
 -- The rounds with a budget: what is left to do after so many of them, and how they end. Assumes nothing.
 use Prim.Native.Nat.{ℕ, zero, suc, ◌+◌, ◌-◌, ◌*◌, ◌≤◌, ◌<◌}
-use mathlib.Core.Path.{◌≡◌, refl, sym, ap, ap₂, subst, ◌∙◌}
+use mathlib.Core.Path.{◌≡◌, refl, sym, ap, ap₂, ◌∙◌}
 use mathlib.Core.Bool.{Bool, true, false, cond}
 use mathlib.Core.List.{List, ◌++◌}
 use native.Mathlib.Omega.{arith}
 use native.Mathlib.Numerals.{add-one}
-use borrow.Author.Rules.{rules}
 use lib.ListN.{length, take, drop, length-drop}
 use lib.Seq.{take_at, drop_at, drop-drop, length-take-le}
 use lib.IntN.{ℤ}
@@ -30,7 +29,7 @@ use Rattle.rounds.specs.declared.Plan.{Plan}
 use Rattle.acceptance.specs.declared.Tested.{Tested}
 use Rattle.acceptance.specs.declared.Tested.TheVariants.{Passed, Failed}
 use Rattle.acceptance.specs.Trial.{tested}
-use Rattle.cg_fields.specs.Fields.{Held, x_of, p_of, z_of, r_of, t_of}
+use Rattle.cg_fields.specs.Fields.{Held, x_of, p_of, z_of, r_of}
 use Rattle.rounds.specs.Rounds.{cast_of, Calm, state_of, z_new, rho_new, beta_new, p_new, scalars_new, below, Scaled, Advanced, Ready, RunOf, EndOf}
 use Rattle.rounds.proofs.Turns.{turns, held, air_same, air_value}
 

@@ -1,8 +1,8 @@
 -- Off air the fields of a round are zero, from the start on: what the calls of a round ask of them. Assumes nothing.
-use Prim.Native.Nat.{ℕ, ◌+◌, ◌*◌, ◌≤◌, ◌<◌}
+use Prim.Native.Nat.{ℕ, ◌*◌, ◌≤◌}
 use mathlib.Core.Path.{◌≡◌, refl, sym, ap, ◌∙◌}
 use mathlib.Core.Bool.{Bool, true, false, cond}
-use mathlib.Core.List.{List, ◌++◌}
+use mathlib.Core.List.{List}
 use native.Mathlib.Omega.{arith}
 use borrow.Author.Rules.{rules}
 use lib.ListN.{length, take, drop}
@@ -19,8 +19,8 @@ use Rattle.smooth.specs.Entries.{InCells}
 use Rattle.cycle.specs.Rooms.{air_from}
 use Rattle.rounds.specs.declared.Plan.{Plan}
 use Rattle.cg_fields.specs.Entries.{Aimed}
-use Rattle.cg_fields.specs.Fields.{x_of, p_of, z_of, r_of, t_of}
-use Rattle.rounds.specs.Rounds.{state_of, p_new, below, plan_sides, plan_labels, Planned, Calm, Drawn, Rho, Applied, Scaled, Advanced}
+use Rattle.cg_fields.specs.Fields.{p_of, z_of, r_of, t_of}
+use Rattle.rounds.specs.Rounds.{p_new, below, plan_sides, plan_labels, Planned, Calm, Drawn, Rho, Applied, Scaled, Advanced}
 use Rattle.rounds.proofs.Turns.{air_listed}
 
 -- ---- z and r, for rho

@@ -1,12 +1,11 @@
 -- Scalars that are finite and above 0, and the step that they allow. Assumes nothing.
 use Prim.Native.Nat.{ℕ, zero, suc}
-use mathlib.Core.Path.{◌≡◌, refl, sym, ap, ◌∙◌}
-use mathlib.Core.Bool.{Bool, true, false, ◌&&◌, cond}
+use mathlib.Core.Path.{◌≡◌, refl, sym, ◌∙◌}
+use mathlib.Core.Bool.{Bool, true, false}
 use borrow.Author.Rules.{rules}
 use lib.Ieee.{Float, lt}
 use Rattle.laws.specs.Binary64.{◌⊘◌, +0}
 use Rattle.method.specs.declared.Scalars.{Scalars}
-use Rattle.method.specs.declared.Step.{Step}
 use Rattle.method.specs.declared.Step.TheVariants.{Go, Stalled}
 use Rattle.method.specs.Rounds.{finite, usable, step, beta_of}
 

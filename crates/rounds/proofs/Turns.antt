@@ -1,21 +1,18 @@
 -- The fields in the room of a round: what each call of a round leaves of them. Assumes nothing.
-use Prim.Native.Nat.{ℕ, zero, suc, ◌+◌, ◌-◌, ◌*◌, ◌≤◌, ◌<◌}
+use Prim.Native.Nat.{ℕ, ◌+◌, ◌-◌, ◌*◌, ◌≤◌, ◌<◌}
 use mathlib.Core.Path.{◌≡◌, refl, sym, ap, ap₂, subst, ◌∙◌}
 use mathlib.Core.Bool.{Bool, true, false, cond}
 use mathlib.Core.List.{List, ◌++◌}
 use native.Mathlib.Omega.{arith}
 use borrow.Author.Rules.{rules}
 use borrow.Rule.Slice.PartMut.{mid_of, put_mid}
-use lib.ListN.{length, get_or, set, take, drop, length-append, length-drop, length-set}
-use lib.Seq.{take_at, drop_at, length-take-le, drop-drop, take-append-le}
+use lib.ListN.{length, set, take, drop, length-append, length-drop, length-set}
+use lib.Seq.{drop_at, length-take-le, drop-drop}
 use lib.Ieee.{Float, nan}
-use Rattle.laws.specs.Loops.{up}
-use Rattle.laws.specs.Lists.{tab}
 use Rattle.laws.specs.Binary64.{◌⊕◌, ◌⊖◌, ◌⊗◌, ◌⊘◌, +0}
 use Rattle.laws.proofs.Lists.{get_or_tab}
 use Rattle.laws.proofs.Fill.{up_same, tab_same, part_take}
 use Rattle.method.specs.declared.Sides.{Sides}
-use Rattle.method.specs.declared.Scalars.{Scalars}
 use Rattle.method.specs.declared.Settings.{Settings}
 use Rattle.method.specs.Cast.{Cast, cells, is_air}
 use Rattle.method.specs.Transfers.{value, in_air}
@@ -24,8 +21,7 @@ use Rattle.method.specs.Rounds.{dot, beta_of, direction, scalars}
 use Rattle.theory.specs.Levels.{sides_at, labels_at}
 use Rattle.theory.specs.Quiet.{Quiet}
 use Rattle.theory.specs.Sides.{Fit}
-use Rattle.levels.specs.Levels.{base}
-use Rattle.smooth.specs.Fields.{u_of, b_of}
+use Rattle.smooth.specs.Fields.{b_of}
 use Rattle.smooth.specs.Entries.{AllRead}
 use Rattle.smooth.proofs.EntryLaws.{all_read}
 use Rattle.smooth.proofs.After.{in_air_length}
@@ -37,7 +33,7 @@ use Rattle.rounds.specs.declared.Plan.{Plan}
 use Rattle.acceptance.specs.declared.Tested.{Tested}
 use Rattle.acceptance.specs.Trial.{tested}
 use Rattle.cg_fields.specs.Entries.{Aimed}
-use Rattle.cg_fields.specs.Fields.{Held, x_of, p_of, z_of, r_of, t_of}
+use Rattle.cg_fields.specs.Fields.{Held, x_of, p_of, r_of, t_of}
 use Rattle.rounds.specs.Rounds.{state_of, z_new, rho_new, beta_new, p_new, scalars_new, below, plan_sides, plan_labels, Prepared, Planned, Calm, Drawn, Rho, Applied, Sigma, Scaled, Advanced}
 use Rattle.rounds.proofs.Parts.{put_length, put_here, put_before, put_after}
 

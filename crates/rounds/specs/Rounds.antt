@@ -1,5 +1,5 @@
 -- What the room of a round holds, and what each part of a round makes of it.
-use Rattle.std.specs.Prelude.{ℕ, zero, suc, ◌+◌, ◌-◌, ◌*◌, ◌≤◌, ◌<◌, ◌≡◌, List, length, ℤ, Float}
+use Rattle.std.specs.Prelude.{ℕ, ◌+◌, ◌-◌, ◌*◌, ◌≤◌, ◌<◌, ◌≡◌, List, length, ℤ, Float}
 use Rattle.laws.specs.Binary64.{◌⊕◌, ◌⊖◌, ◌⊗◌, +0}
 use Rattle.method.specs.declared.Sides.{Sides}
 use Rattle.method.specs.declared.Settings.{Settings}
@@ -12,7 +12,6 @@ use Rattle.method.specs.Rounds.{State, dot, beta_of, direction, scalars, run, st
 use Rattle.theory.specs.Quiet.{Quiet}
 use Rattle.answers.specs.declared.Ended.{Ended}
 use Rattle.answers.specs.Ends.{end_of}
-use Rattle.theory.specs.Sides.{Fit}
 use Rattle.levels.specs.Levels.{base}
 use Rattle.bands.specs.AllLists.{base_labels}
 use Rattle.cycle.specs.Rooms as Rooms

@@ -14,7 +14,6 @@ use Rattle.method.specs.declared.Answer.{Answer}
 use Rattle.method.specs.declared.Order.TheVariants.{Big}
 use Rattle.method.specs.Cast.{cells}
 use Rattle.method.specs.Form.{header, header_of, labels_in, values_in}
-use Rattle.method.specs.Form as form
 use Rattle.method.specs.Answers.{fault, passed, refused, verdict, refusal, done}
 use Rattle.method.specs.Rooms.{filled}
 use Rattle.method.specs.Reading.{Reading, line_check, side_check, body_check, room_check, content_checks, reader_checks, not_read, is_read, reading_by, reading}

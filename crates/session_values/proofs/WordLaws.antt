@@ -6,19 +6,19 @@ use Prim.Native.Nat.{ℕ, zero, suc, ◌+◌, ◌-◌, ◌*◌, ◌≤◌, ◌<�
 use native.Mathlib.Numerals.{add-one}
 use native.Mathlib.Omega.{arith}
 use borrow.Author.Rules.{rules}
-use borrow.Author.Tests.{lt-ltb, le-ltb, ltb-true}
+use borrow.Author.Tests.{lt-ltb, le-ltb}
 use lib.Dec.{T, ltb}
 use lib.ListN.{length, get_or, set, take, drop, length-set}
 use lib.Seq.{drop-cons, set_at, append_snoc}
 use lib.IntN.{ℤ, pos, negsuc, nat_abs, ◌-ℤ◌}
-use lib.Signed.{lt_z, non_neg, mag}
+use lib.Signed.{lt_z, non_neg}
 use mir.Syntax.{w32}
 use mir.Val.{Fits, SFits, to_z, of_z}
 use mir.Facts.{to_z-of_z, to_z_pos, sfits_to_z}
 use Rattle.laws.specs.Lists.{tab}
 use Rattle.laws.proofs.Lists.{get_or_any, length_tab}
 use Rattle.laws.proofs.Fill.{tab_snoc}
-use Rattle.signed_numbers.proofs.Signs.{same, below, above, turned_fits, turned_read}
+use Rattle.signed_numbers.proofs.Signs.{same, below, above, turned_read}
 use Rattle.method.specs.declared.Order.{Order}
 use Rattle.method.specs.declared.Order.TheVariants.{Big, Little}
 use Rattle.method.specs.Cast.{label_at, widest}

@@ -17,7 +17,7 @@ use Rattle.method.specs.Form.{header, labels_in, values_in, cast_in, value_read}
 use Rattle.method.specs.Answers.{fault}
 use Rattle.method.specs.Rooms.{filled}
 use Rattle.method.specs.Reading.{Reading, line_check, side_check, body_check, room_check, content_checks, reader_checks, reading, is_read}
-use Rattle.method.specs.Writing.{Writing, bytes_of, writing}
+use Rattle.method.specs.Writing.{bytes_of, writing}
 use Rattle.theory.specs.Sessions.{Read0, Written0, again}
 use Rattle.theory.proofs.Verdicts.{all_pass, pass_all}
 use Rattle.theory.proofs.RoundTrip.{read_0, written_0, written_in_front, written_then_read, read_rewritten}

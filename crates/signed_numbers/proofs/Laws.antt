@@ -1,17 +1,16 @@
 -- When a whole number fits an i64, by its size, and what a caller finds behind the bits. Assumes nothing.
-use mathlib.Core.Path.{◌≡◌, ap, ◌∙◌}
-use mathlib.Core.Bool.{true, false}
+use mathlib.Core.Path.{◌≡◌, ◌∙◌}
 use Prim.Native.Nat.{ℕ, ◌+◌, ◌*◌, ◌^◌, ◌<◌, ◌≤◌}
 use native.Mathlib.Nat.{mul-le-mul_right}
 use native.Mathlib.Omega.{arith}
 use borrow.Author.Rules.{rules}
 use lib.IntN.{ℤ, pos, negsuc, nat_abs}
-use lib.Signed.{mag, ◌≤ℤ◌, ◌<ℤ◌, lt_z, lt_z_yes, lt_z_no, nat_abs-le}
+use lib.Signed.{mag, nat_abs-le}
 use mir.Syntax.{w32, w64}
 use mir.Val.{SFits, to_z, of_z}
 use mir.Facts.{sfits_widen, to_z-of_z, to_z_pos}
-use Rattle.laws.specs.Whole.{◌+ᶻ◌, ◌-ᶻ◌, ◌*ᶻ◌, neg}
-use Rattle.laws.proofs.Zed.{at, lin, z_eq, z_le, lt_of_both, abs_neg, abs_times, abs_add, abs_sub}
+use Rattle.laws.specs.Whole.{◌+ᶻ◌, ◌-ᶻ◌, ◌*ᶻ◌}
+use Rattle.laws.proofs.Zed.{abs_times, abs_add, abs_sub}
 
 mag_le : (z : ℤ) → mag z ≤ nat_abs z
 mag_le (pos n) = omega arith

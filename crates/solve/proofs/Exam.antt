@@ -1,7 +1,7 @@
 -- What the solver's promise comes to: one result; question 3 of the very answer that the code gives; document 01's hand
 -- cases by the code. Assumes nothing.
 use Prim.Native.Nat.{ℕ, ◌≤◌}
-use mathlib.Core.Path.{◌≡◌, refl, sym, ap, ap₂, ◌∙◌}
+use mathlib.Core.Path.{◌≡◌, refl, sym, ap, ◌∙◌}
 use mathlib.Core.List.{List, [], ◌∷◌}
 use lib.ListN.{replicate}
 use lib.IntN.{ℤ, pos, nat_abs}

@@ -1,9 +1,9 @@
 -- The checks before 7, in their order. Assumes nothing.
-use Prim.Native.Nat.{ℕ, zero, suc, ◌+◌, ◌*◌, ◌≤◌, ◌<◌}
+use Prim.Native.Nat.{ℕ, zero, suc, ◌+◌, ◌≤◌, ◌<◌}
 use mathlib.Core.Path.{◌≡◌, refl, sym, ap, ap₂, ◌∙◌}
 use mathlib.Core.Logic.{⊎_elim}
 use mathlib.Core.Bool.{Bool, true, false, not, cond, ◌&&◌, false≢true}
-use mathlib.Core.List.{List, [], ◌∷◌}
+use mathlib.Core.List.{List}
 use native.Mathlib.Nat.{eq-or-lt_of_le, le_of_suc-le-suc}
 use native.Mathlib.Omega.{arith}
 use borrow.Author.Rules.{rules}
@@ -15,7 +15,6 @@ use lib.ListN.{length}
 use Rattle.method.specs.declared.Sides.{Sides}
 use Rattle.method.specs.declared.Settings.{Settings}
 use Rattle.method.specs.declared.Found.{Found}
-use Rattle.method.specs.declared.Found.TheVariants.{Nowhere, At}
 use Rattle.laws.specs.Loops.{up}
 use Rattle.laws.proofs.Bools.{is_true}
 use Rattle.method.specs.Cast.{cells, label_at, is_air, judged, first, sides_fit, settings_fit, interior}
@@ -28,7 +27,7 @@ use Rattle.theory.proofs.Sides.{fit}
 use Rattle.theory.proofs.Counting.{some_counted}
 use Rattle.theory.proofs.Firsts.{FirstAt, Search, found, none, search_first, None, none_none, none_more, none_end, hit}
 use Rattle.checks.specs.declared.Ruling.{Ruling}
-use Rattle.checks.specs.declared.Ruling.TheVariants.{Refused, Allowed}
+use Rattle.checks.specs.declared.Ruling.TheVariants.{Refused}
 use Rattle.checks.specs.Rulings.{ruling_of, ruling_by, first_of}
 use Rattle.checks.specs.Faults.{cell_ruling}
 use Rattle.theory.proofs.Verdicts.{fails_at, passes_on, fault_no, fault_yes}

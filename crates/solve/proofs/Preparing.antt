@@ -1,12 +1,10 @@
 -- What is prepared: the labels and lists of all levels, for a plan of this very cast. Assumes nothing.
-use Prim.Native.Nat.{ℕ, ◌+◌, ◌*◌, ◌≤◌, ◌<◌}
-use mathlib.Core.Path.{◌≡◌, refl, sym, ap, ◌∙◌}
+use Prim.Native.Nat.{ℕ, ◌≤◌}
+use mathlib.Core.Path.{◌≡◌, refl}
 use mathlib.Core.List.{List}
-use native.Mathlib.Omega.{arith}
 use borrow.Author.Rules.{rules}
 use lib.ListN.{length}
 use Rattle.method.specs.declared.Sides.{Sides}
-use Rattle.method.specs.Cast.{cells}
 use Rattle.theory.specs.Levels.{air_before}
 use Rattle.levels.specs.declared.sides.Levels.{Levels}
 use Rattle.bands.specs.declared.lists.Lists.{Lists}

@@ -1,9 +1,9 @@
 -- The entry point: what is known once no check before 7 fails, and what everything lent holds at the end. Assumes
 -- nothing.
-use Prim.Native.Nat.{ℕ, zero, suc, ◌+◌, ◌-◌, ◌*◌, ◌≤◌, ◌<◌}
-use mathlib.Core.Path.{◌≡◌, refl, sym, ap, ap₂, ◌∙◌}
-use mathlib.Core.Bool.{Bool, true, false, not, ◌&&◌, false≢true}
-use mathlib.Core.List.{List, [], ◌∷◌, ◌++◌}
+use Prim.Native.Nat.{ℕ, ◌+◌, ◌-◌, ◌*◌, ◌≤◌}
+use mathlib.Core.Path.{◌≡◌, refl, sym, ap, ◌∙◌}
+use mathlib.Core.Bool.{true}
+use mathlib.Core.List.{List, ◌++◌}
 use native.Mathlib.Omega.{arith}
 use borrow.Author.Rules.{rules}
 use borrow.Author.Tests.{eqb-true, leb-true}
@@ -11,23 +11,20 @@ use borrow.Rule.Slice.PartMut.{mid_of, put_mid, same_len_mid}
 use lib.Dec.{leb, eqb}
 use lib.IntN.{ℤ}
 use lib.Ieee.{Float}
-use lib.ListN.{length, take, drop, length-drop}
+use lib.ListN.{length, drop}
 use lib.Seq.{length-take-le}
 use Rattle.laws.specs.Binary64.{+0}
 use Rattle.method.specs.declared.Sides.{Sides}
 use Rattle.method.specs.declared.Settings.{Settings}
 use Rattle.method.specs.declared.Answer.{Answer}
-use Rattle.method.specs.declared.Found.TheVariants.{Nowhere}
-use Rattle.method.specs.Cast.{cells, label_at, between, sides_fit, settings_fit}
-use Rattle.method.specs.Walks.{sealed}
+use Rattle.method.specs.Cast.{cells, between, settings_fit}
 use Rattle.method.specs.Answers.{Verdict, passed, refused, verdict, refusal}
 use Rattle.method.specs.Rooms.{byte_need, float_need, word_need, cleared}
-use Rattle.method.specs.Solving.{Asked, size, Solved, lengths_fit, checks_before7, untouched, handed_back, solving}
-use Rattle.theory.specs.Walks.{Walk}
+use Rattle.method.specs.Solving.{Asked, Solved, lengths_fit, checks_before7, untouched, handed_back, solving}
 use Rattle.theory.specs.Sides.{Fit}
 use Rattle.theory.proofs.Sides.{fit}
 use Rattle.theory.proofs.Verdicts.{AllPass, all_pass, no_fault}
-use Rattle.theory.proofs.Accepted.{fit_sides, sized, some_air, reaching}
+use Rattle.theory.proofs.Accepted.{fit_sides, some_air, reaching}
 use Rattle.theory.proofs.Reach.{test_air}
 use Rattle.grid.proofs.Steps.{cells_most}
 use Rattle.checks.specs.declared.Ruling.{Ruling}

@@ -1,10 +1,10 @@
 -- Past check 6: what the parts ask, and what they come to. Assumes nothing.
-use Prim.Native.Nat.{ℕ, zero, suc, ◌+◌, ◌-◌, ◌*◌, ◌≤◌, ◌<◌}
+use Prim.Native.Nat.{ℕ, ◌-◌, ◌≤◌}
 use mathlib.Core.Path.{◌≡◌, refl, sym, ap, ap₂, ◌∙◌}
-use mathlib.Core.List.{List, [], ◌++◌}
+use mathlib.Core.List.{List, []}
 use native.Mathlib.Omega.{arith}
 use borrow.Author.Rules.{rules}
-use lib.ListN.{length, take, drop, length-drop}
+use lib.ListN.{length, take, drop}
 use lib.Seq.{length-take-le}
 use lib.IntN.{ℤ}
 use lib.Ieee.{Float}
@@ -16,7 +16,7 @@ use Rattle.method.specs.declared.Found.TheVariants.{Nowhere, At}
 use Rattle.method.specs.Cast.{Cast, cells, worst, interior}
 use Rattle.method.specs.Walks.{depth, sealed}
 use Rattle.method.specs.Answers.{check, Verdict, passed, refused, verdict, refusal, accepted, unfinished}
-use Rattle.method.specs.Rooms.{byte_need, float_need, word_need}
+use Rattle.method.specs.Rooms.{float_need, word_need}
 use Rattle.method.specs.Ticks.{rounded}
 use Rattle.method.specs.Rounds.{solved, failed, ending}
 use Rattle.method.specs.Solving.{Asked, Solved, checks_from7, handed_back, answer_of, pressures_of, ended}
@@ -32,9 +32,8 @@ use Rattle.distances.specs.Search.{Roomy}
 use Rattle.acceptance.specs.Trial as Trial
 use Rattle.bands.proofs.Calls.{words_enough}
 use Rattle.theory.proofs.Verdicts.{fails_at, passes_on}
-use Rattle.checks.proofs.RuleLaws.{ruling_none}
 use Rattle.rounds.specs.declared.Plan.{Plan}
-use Rattle.rounds.specs.Rounds.{cast_of, plan_sides, Ready, EndOf}
+use Rattle.rounds.specs.Rounds.{cast_of, EndOf}
 use Rattle.rounds.proofs.Turns.{fit_planned}
 use Rattle.solve.specs.Work.{PrepareAsked, PlanOf, OfCast, RunAsked, Ran, Checked, from_seven, Worked}
 

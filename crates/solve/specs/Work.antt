@@ -1,12 +1,12 @@
 -- Past check 6: what is prepared, what is run, and what it comes to.
-use Rattle.std.specs.Prelude.{ℕ, ◌+◌, ◌*◌, ◌≤◌, ◌<◌, ◌≡◌, List, length, ℤ}
+use Rattle.std.specs.Prelude.{ℕ, ◌≤◌, ◌≡◌, List, length, ℤ}
 use Rattle.method.specs.declared.Sides.{Sides}
 use Rattle.method.specs.declared.Settings.{Settings}
 use Rattle.method.specs.declared.Answer.{Answer}
 use Rattle.method.specs.declared.Found.TheVariants.{Nowhere}
 use Rattle.method.specs.Cast.{Cast, cells, label_at, interior}
 use Rattle.method.specs.Walks.{depth, sealed}
-use Rattle.method.specs.Answers.{Verdict, passed, refused, verdict, refusal}
+use Rattle.method.specs.Answers.{passed, refused, verdict, refusal}
 use Rattle.method.specs.Rooms.{byte_need, float_need, word_need}
 use Rattle.method.specs.Rounds.{ending}
 use Rattle.method.specs.Solving.{Asked, Solved, checks_from7, handed_back, answer_of, pressures_of, ended}

@@ -1,32 +1,29 @@
 -- What an accepted answer is, and what answer 7 is, of the very result of `method`'s solving. Assumes nothing.
 use mathlib.Core.Path.{◌≡◌, refl, sym, ap, subst, ◌∙◌}
-use mathlib.Core.Logic.{◌⊎◌, inl, inr, ⊎_elim}
 use mathlib.Core.Bool.{Bool, true, false, not, ◌&&◌, true≢false}
-use mathlib.Core.List.{List}
-use Prim.Native.Nat.{ℕ, zero, suc, ◌+◌, ◌<◌, ◌≤◌}
+use Prim.Native.Nat.{ℕ, ◌<◌}
 use native.Mathlib.Nat.{le_trans, le_of_eq}
 use native.Mathlib.Omega.{arith}
-use lib.Dec.{T, T_not, not_T, leb, eqb, eqb→eq}
+use lib.Dec.{T, T_not, leb, eqb, eqb→eq}
 use lib.ListN.{length, get_or}
 use lib.IntN.{nat_abs}
 use borrow.Author.Tests.{eq-eqb}
-use Rattle.laws.proofs.Bools.{and_l, and_r, and_in, so, so_not, is_true, split}
+use Rattle.laws.proofs.Bools.{and_l, and_r, and_in, so}
 use Rattle.method.specs.declared.Found.{Found}
 use Rattle.method.specs.declared.Found.TheVariants.{Nowhere, At}
-use Rattle.method.specs.Cast.{cells, label_at, is_air, judged, field, residual, worst, interior, sides_fit}
+use Rattle.method.specs.Cast.{is_air, judged, worst, interior, sides_fit}
 use Rattle.method.specs.Walks.{depth, is_at, steps_of, walk, sealed}
 use Rattle.method.specs.Answers.{accepted, refusal, unfinished}
 use Rattle.method.specs.Rooms.{byte_need, float_need, word_need}
 use Rattle.method.specs.Ticks.{rounded, passes}
 use Rattle.method.specs.Rounds.{State, pass, fail}
 use Rattle.method.specs.Solving.{Asked, size, Solved, lengths_fit, checks_before7, untouched, handed_back, answer_of, solving}
-use Rattle.theory.specs.Walks.{Walk}
 use Rattle.theory.specs.Answered.{label, left, Away, Accepted, CutOff}
 use Rattle.theory.proofs.Verdicts.{AllPass, no_fault, no_fault'}
 use Rattle.theory.proofs.Reach.{air_test, test_air, in_box_lem, found_cases, never, same_steps, least_walk, no_walk}
 use Rattle.theory.proofs.Counting.{some_counted}
 use Rattle.theory.proofs.Greatest.{greatest_all, greatest_attained}
-use Rattle.theory.proofs.Firsts.{FirstAt, Search, found, none, search_first}
+use Rattle.theory.proofs.Firsts.{Search, found, none, search_first}
 use Rattle.theory.proofs.Pressures.{length_rounded, openings_rounded, walls_rounded, worst_passes, air_rounded}
 use Rattle.theory.proofs.Worst.{where_worst}
 use Rattle.theory.proofs.Outcome.{Outcome, early, cut_off, unended, right, outcome}

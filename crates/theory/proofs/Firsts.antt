@@ -8,7 +8,6 @@ use native.Mathlib.Numerals.{add-one}
 use native.Mathlib.Omega.{arith}
 use lib.Dec.{T}
 use Rattle.laws.specs.Loops.{up}
-use Rattle.method.specs.declared.Found.{Found}
 use Rattle.method.specs.declared.Found.TheVariants.{Nowhere, At}
 use Rattle.method.specs.Cast.{or_else, first}
 use Rattle.laws.proofs.Bools.{is_true, is_false}

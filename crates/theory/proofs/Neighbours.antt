@@ -8,7 +8,6 @@ use Prim.Native.Nat.{ℕ, ◌+◌, ◌-◌, ◌*◌, ◌/◌, ◌%◌, ◌<◌, 
 use native.Mathlib.Nat.{mod-lt, mod_self, mod-add-mod, mod-eq_of_lt, div-eq_of_lt, zero-mod, add-div_right, mul-pos, mul-le-mul_left, mul-mod_right, div-lt_iff_lt-mul, eq-or-lt_of_le}
 use native.Mathlib.Decide.{ℕ_discrete}
 use native.Mathlib.Omega.{arith, by_contra}
-use lib.Dec.{ltb, ltb→lt, nltb→le}
 use borrow.Author.Tests.{lt-ltb, le-ltb}
 use Rattle.method.specs.declared.Sides.{Sides}
 use Rattle.method.specs.Cast.{Axis, cells, axes, along, back, on, beside, around, sides_fit}

@@ -2,12 +2,12 @@
 -- nothing.
 use mathlib.Core.Path.{◌≡◌, refl, sym, ap, ap₂, subst, ◌∙◌}
 use mathlib.Core.Logic.{⊎_elim}
-use mathlib.Core.Bool.{Bool, true, ◌&&◌, cond}
+use mathlib.Core.Bool.{true, ◌&&◌, cond}
 use mathlib.Core.List.{List, [], ◌∷◌, ◌++◌, append_assoc, flat_map}
 use Prim.Native.Nat.{ℕ, zero, suc, ◌+◌, ◌-◌, ◌*◌, ◌/◌, ◌%◌, ◌^◌, ◌<◌, ◌≤◌, suc-le-suc}
 use native.Mathlib.Nat.{div-add-mod, mul-div_cancel_left, mul-mod_right}
 use native.Mathlib.Omega.{arith}
-use lib.Dec.{T, ltb, eqb, ltb→lt, eqb→eq}
+use lib.Dec.{T, eqb, ltb→lt, eqb→eq}
 use lib.ListN.{length, get_or, take, drop, length-append, length-drop, take-append-drop}
 use lib.Seq.{take_at, take-add, drop-append-add, drop-cons, drop-drop, length-take-le}
 use lib.IntN.{ℤ, pos, negsuc, nat_abs, neg_ℤ}

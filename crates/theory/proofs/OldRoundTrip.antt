@@ -2,21 +2,20 @@
 -- what was read. Assumes nothing.
 use mathlib.Core.Path.{◌≡◌, refl, sym, ap, ap₂, subst, ◌∙◌}
 use mathlib.Core.Bool.{Bool, true, false, not, ◌&&◌}
-use mathlib.Core.List.{List, [], ◌∷◌, ◌++◌, append_assoc, flat_map}
+use mathlib.Core.List.{List, ◌++◌, append_assoc, flat_map}
 use Prim.Native.Nat.{ℕ, ◌+◌, ◌*◌, ◌<◌, ◌≤◌}
 use native.Mathlib.Omega.{arith}
-use lib.Dec.{T, leb, eqb, ltb, leb→le, eqb→eq}
+use lib.Dec.{T, leb, eqb, ltb, eqb→eq}
 use lib.ListN.{length, get_or, take, drop, length-append, length-drop, take-append-drop}
-use lib.Seq.{length-take-le, take_all, take-append_seam, take_at, drop_at}
+use lib.Seq.{length-take-le, take_all, take-append_seam, drop_at}
 use lib.IntN.{ℤ, pos}
 use borrow.Author.Tests.{le-leb, eq-eqb, le-ltb}
 use Rattle.method.specs.declared.Sides.{Sides}
 use Rattle.method.specs.declared.Settings.{Settings}
-use Rattle.method.specs.declared.Found.{Found}
 use Rattle.method.specs.declared.Found.TheVariants.{Nowhere}
-use Rattle.method.specs.Cast.{Cast, cells, between, sides_fit, settings_fit, field, first, label_fault, value_fault}
+use Rattle.method.specs.Cast.{Cast, cells, sides_fit, settings_fit, field, first, label_fault, value_fault}
 use Rattle.method.specs.Form.{most_first}
-use Rattle.method.specs.Answers.{fault, Verdict, passed, refused, verdict, refusal, done}
+use Rattle.method.specs.Answers.{fault, Verdict, passed, refused, refusal, done}
 use Rattle.method.specs.Rooms.{filled}
 use Rattle.method.specs.Writing.{Written}
 use Rattle.method.specs.OldForm.{OldHeader, old_header, old_bad_line, old_value_read, old_value_written, short_signed, old_labels_in, old_values_in, old_cast_in, old_header_written, old_written, unit_fits, OldReading, OldRead, old_named, old_line_check, old_side_check, old_body_check, old_room_check, old_content_checks, old_reader_checks, old_reading, old_is_read, old_not_read, OldWriting, old_bytes_of, old_lengths_fit, expressible, not_expressible, old_writer_checks, old_writing}

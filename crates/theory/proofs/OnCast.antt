@@ -1,10 +1,9 @@
 -- The bound on a cast: over any set of its air cells that is closed under air neighbours, and over all of its air.
 -- Assumes nothing.
 use mathlib.Core.Path.{◌≡◌, refl, sym, ap, ◌∙◌}
-use mathlib.Core.Logic.{⊎_elim}
 use mathlib.Core.Bool.{Bool, true, false, not}
 use mathlib.Core.List.{List}
-use Prim.Native.Nat.{ℕ, zero, suc, ◌+◌, ◌*◌, ◌<◌, ◌≤◌}
+use Prim.Native.Nat.{ℕ, zero, suc, ◌*◌, ◌<◌, ◌≤◌}
 use native.Mathlib.Nat.{mul-zero}
 use native.Mathlib.Omega.{arith}
 use lib.Dec.{T, T_not, not_T, ltb, ltb→lt}
@@ -13,7 +12,7 @@ use lib.IntN.{ℤ, pos, nat_abs}
 use Rattle.laws.specs.Whole.{◌-ᶻ◌, ◌*ᶻ◌}
 use Rattle.laws.proofs.Zed.{at, lin, z_eq, eq_z}
 use Rattle.method.specs.declared.Sides.{Sides}
-use Rattle.method.specs.Cast.{Cast, cells, label_at, is_air, is_opening, no_wall, around, field, residual, sides_fit, judged, interior}
+use Rattle.method.specs.Cast.{Cast, cells, label_at, is_air, no_wall, around, field, residual, sides_fit, judged, interior}
 use Rattle.theory.specs.Walks.{Beside, Walk, last, step}
 use Rattle.theory.specs.Exact.{Solves, bound}
 use Rattle.theory.proofs.Bound.{lap, Way, leave, step as onward}

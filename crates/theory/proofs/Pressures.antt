@@ -1,19 +1,19 @@
 -- The pressures that pass the test: the levels at openings, 0 at walls, whole ticks within ±2^41 in air. Assumes
 -- nothing.
-use mathlib.Core.Path.{◌≡◌, refl, sym, ap, ◌∙◌}
+use mathlib.Core.Path.{◌≡◌, refl, ap, ◌∙◌}
 use mathlib.Core.Logic.{⊎_elim}
-use mathlib.Core.Bool.{Bool, true, false, not, ◌&&◌, cond}
-use mathlib.Core.List.{List, [], ◌∷◌, map, Memᴰ}
+use mathlib.Core.Bool.{Bool, true, false, not, cond}
+use mathlib.Core.List.{List, [], ◌∷◌, Memᴰ}
 use Prim.Native.Nat.{ℕ, zero, suc, ◌*◌, ◌^◌, ◌<◌, ◌≤◌}
 use native.Mathlib.Nat.{not-suc-le-zero, le_of_suc-le-suc}
 use native.Mathlib.Omega.{arith}
-use lib.Dec.{T, T_not, not_T, eqb, leb, leb→le}
+use lib.Dec.{T, T_not, not_T, leb, leb→le}
 use lib.ListN.{length, get_or, length-map, get_or-map, get_or-eq_default}
-use lib.IntN.{ℤ, pos, negsuc, neg_ℤ, nat_abs}
+use lib.IntN.{pos, nat_abs}
 use lib.Ieee as Ieee
 use lib.Ieee.{Float, nan, inf, fin}
 use borrow.Author.Tests.{ne_eqb}
-use Rattle.laws.specs.Lists.{tab, any}
+use Rattle.laws.specs.Lists.{any}
 use Rattle.laws.proofs.Bools.{and_l, and_r, so, is_true}
 use Rattle.laws.proofs.Naturals.{le_or_lt}
 use Rattle.laws.proofs.Lists.{length_tab, get_or_tab, any_in}

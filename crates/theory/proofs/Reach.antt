@@ -2,16 +2,16 @@
 -- least number of steps; and as many steps as there are cells are enough. Assumes nothing.
 use mathlib.Core.Path.{◌≡◌, refl, sym, ap, ap₂, subst, ◌∙◌}
 use mathlib.Core.Logic.{◌⊎◌, inl, inr, ⊎_elim}
-use mathlib.Core.Bool.{Bool, true, false, not, ◌&&◌, ◌||◌, cond}
-use mathlib.Core.List.{List, [], ◌∷◌}
+use mathlib.Core.Bool.{Bool, true, false, ◌&&◌, ◌||◌, cond}
+use mathlib.Core.List.{List}
 use Prim.Native.Nat.{ℕ, zero, suc, ◌+◌, ◌-◌, ◌<◌, ◌≤◌}
 use native.Mathlib.Nat.{zero-add, suc-add}
 use native.Mathlib.Omega.{arith}
-use lib.Dec.{T, eqb, eqb→eq, ltb, ltb→lt, nltb→le}
+use lib.Dec.{T, eqb→eq}
 use lib.ListN.{length, get_or, get_or-eq_default}
 use borrow.Author.Tests.{eq-eqb, lt-ltb}
-use Rattle.laws.specs.Lists.{tab, any}
-use Rattle.laws.proofs.Bools.{split, and_l, and_r, and_in, or_l, or_r, is_true, so}
+use Rattle.laws.specs.Lists.{any}
+use Rattle.laws.proofs.Bools.{and_l, and_r, and_in, is_true, so}
 use Rattle.laws.proofs.Naturals.{le_or_lt}
 use Rattle.laws.proofs.Lists.{length_tab, get_or_tab, any_some, any_in, any_cong}
 use Rattle.method.specs.declared.Sides.{Sides}

@@ -1,11 +1,11 @@
 -- How far pressures that leave residuals are from those that leave none, over a region of cells. Assumes nothing.
 use mathlib.Core.Path.{◌≡◌, refl, ap, ◌∙◌}
 use mathlib.Core.Bool.{Bool, true, false, not}
-use Prim.Native.Nat.{ℕ, zero, suc, ◌+◌, ◌*◌, ◌<◌, ◌≤◌}
+use Prim.Native.Nat.{ℕ, zero, suc, ◌*◌, ◌<◌, ◌≤◌}
 use native.Mathlib.Nat.{mul-le-mul_left, mul-le-mul_right, le_trans}
 use native.Mathlib.Omega.{arith}
 use lib.Dec.{T}
-use lib.IntN.{ℤ, pos, negsuc, nat_abs}
+use lib.IntN.{ℤ, pos, nat_abs}
 use lib.Signed.{◌≤ℤ◌}
 use Rattle.laws.specs.Whole.{◌-ᶻ◌, ◌*ᶻ◌, neg}
 use Rattle.laws.proofs.Zed.{at, lin, z_eq, z_le, abs_neg, abs_times, abs_le}

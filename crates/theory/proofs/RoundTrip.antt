@@ -1,12 +1,12 @@
 -- A session written is read as what it was, and bytes that are accepted are the one spelling of what was read. Assumes
 -- nothing.
 use mathlib.Core.Path.{◌≡◌, refl, sym, ap, ap₂, subst, ◌∙◌}
-use mathlib.Core.Bool.{Bool, true, not, ◌&&◌}
-use mathlib.Core.List.{List, [], ◌∷◌, ◌++◌, append_assoc, flat_map}
+use mathlib.Core.Bool.{true, not, ◌&&◌}
+use mathlib.Core.List.{List, ◌++◌, append_assoc, flat_map}
 use Prim.Native.Nat.{ℕ, zero, suc, ◌+◌, ◌*◌, ◌<◌, ◌≤◌}
 use native.Mathlib.Nat.{le_trans}
 use native.Mathlib.Omega.{arith}
-use lib.Dec.{T, leb, eqb, ltb, leb→le, eqb→eq, nltb→le}
+use lib.Dec.{T, leb, eqb, ltb, eqb→eq, nltb→le}
 use lib.ListN.{length, take, drop, length-append, length-drop, take-append-drop}
 use lib.Seq.{length-take-le, take-append_seam, take_at, drop_at, drop-drop, get_or-drop, get_or-append-add}
 use lib.IntN.{ℤ, nat_abs}
@@ -14,18 +14,17 @@ use borrow.Author.Tests.{le-leb, eq-eqb, le-ltb}
 use Rattle.method.specs.declared.Sides.{Sides}
 use Rattle.method.specs.declared.Settings.{Settings}
 use Rattle.method.specs.declared.Order.{Order}
-use Rattle.method.specs.declared.Found.{Found}
-use Rattle.method.specs.declared.Found.TheVariants.{Nowhere, At}
+use Rattle.method.specs.declared.Found.TheVariants.{Nowhere}
 use Rattle.method.specs.Cast.{Cast, cells, between, sides_fit, settings_fit, label_at, field, widest, bad_value, label_fault, value_fault}
 use Rattle.method.specs.Form.{Header, header, bad_line, value_read, value_written, labels_in, values_in, cast_in, header_written, written}
-use Rattle.method.specs.Answers.{Check, fault, Verdict, passed, refused, verdict, refusal, done}
+use Rattle.method.specs.Answers.{fault, Verdict, passed, refused, refusal, done}
 use Rattle.method.specs.Rooms.{filled}
 use Rattle.method.specs.Reading.{Reading, Read, named, line_check, side_check, body_check, room_check, content_checks, reader_checks, reading_by, reading, is_read, not_read}
 use Rattle.method.specs.Writing.{Writing, Written, bytes_of, writer_lengths_fit, writer_checks, writing}
 use Rattle.laws.proofs.Lists.{length_tab}
 use Rattle.laws.proofs.Bools.{and_l, and_r, so}
 use Rattle.theory.specs.Sessions.{Bytes, Read0, Written0, ReadBack, WrittenBack, again}
-use Rattle.theory.proofs.Verdicts.{AllPass, Judged, fine, faulty, judge, no_fault, not_passed, all_pass, pass_all, fault_no}
+use Rattle.theory.proofs.Verdicts.{AllPass, Judged, fine, faulty, judge, no_fault, all_pass, pass_all, fault_no}
 use Rattle.theory.proofs.Sides.{fit, to}
 use Rattle.theory.proofs.Reach.{never}
 use Rattle.theory.proofs.Firsts.{Search, found, none, search_first}

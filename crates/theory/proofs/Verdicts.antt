@@ -3,11 +3,11 @@
 use mathlib.Core.Path.{◌≡◌, refl, sym, ap, ap₂, ◌∙◌}
 use mathlib.Core.Bool.{Bool, true, false, not}
 use mathlib.Core.List.{List, [], ◌∷◌}
-use Prim.Native.Nat.{ℕ, zero, suc, ◌<◌, ◌≤◌}
+use Prim.Native.Nat.{ℕ, ◌≤◌}
 use native.Mathlib.Omega.{arith}
 use Rattle.method.specs.declared.Found.{Found}
 use Rattle.method.specs.declared.Found.TheVariants.{Nowhere, At}
-use Rattle.method.specs.Answers.{Check, check, fault, Verdict, passed, refused, verdict}
+use Rattle.method.specs.Answers.{Check, fault, Verdict, passed, refused, verdict}
 use Rattle.theory.proofs.Reach.{never}
 
 -- every check finds nothing

@@ -1,7 +1,7 @@
 -- Where the residual is worst: the first air cell of the greatest size, and what the rounds' end says of it. Assumes
 -- nothing.
-use mathlib.Core.Path.{◌≡◌, refl, sym, ap, ◌∙◌}
-use mathlib.Core.Bool.{Bool, true, not, ◌&&◌}
+use mathlib.Core.Path.{◌≡◌, sym, ap, ◌∙◌}
+use mathlib.Core.Bool.{not}
 use mathlib.Core.List.{List}
 use Prim.Native.Nat.{ℕ, ◌<◌, ◌≤◌}
 use native.Mathlib.Omega.{arith}
@@ -12,14 +12,14 @@ use borrow.Author.Tests.{eq-eqb}
 use Rattle.laws.proofs.Bools.{and_l, and_r, and_in, so}
 use Rattle.method.specs.declared.Found.{Found}
 use Rattle.method.specs.declared.Found.TheVariants.{Nowhere, At}
-use Rattle.method.specs.Cast.{Cast, cells, label_at, is_air, judged, field, residual, worst, first, is_worst, worst_cell, worst_value}
+use Rattle.method.specs.Cast.{Cast, cells, label_at, is_air, judged, field, residual, worst, is_worst, worst_cell, worst_value}
 use Rattle.method.specs.declared.Settings.{Settings}
-use Rattle.method.specs.Rounds.{End, solved, failed, pass, fail, ending}
+use Rattle.method.specs.Rounds.{solved, failed, pass, fail, ending}
 use Rattle.theory.proofs.Ends.{Ended, passing, failing, ending_is}
 use Rattle.theory.proofs.Pressures.{worst_passes}
 use Rattle.theory.proofs.Reach.{air_test, test_air}
 use Rattle.theory.proofs.Greatest.{greatest_all, greatest_attained}
-use Rattle.theory.proofs.Firsts.{FirstAt, Search, found, none, search_first}
+use Rattle.theory.proofs.Firsts.{Search, found, none, search_first}
 
 module _ (k : Cast) (ps : List ℤ) where
   abbrev here : ℕ → ℤ

@@ -1,6 +1,6 @@
 -- What an accepted answer says of the cast and of the pressures handed back, and what answer 7 says of its place.
 use Rattle.std.specs.Prelude.{ℕ, ◌^◌, ◌<◌, ◌≤◌, ◌≡◌, List, length, ℤ, pos, nat_abs}
-use Rattle.method.specs.Cast.{cells, label_at, field, residual, interior}
+use Rattle.method.specs.Cast.{label_at, field, residual, interior}
 use Rattle.method.specs.Solving.{Asked, solved_cast, size, Solved}
 use Rattle.theory.specs.Walks.{Walk}
 

@@ -1,5 +1,5 @@
 -- What it is that an old session is written and read again (document 02, wish 2). Definitions only.
-use Rattle.std.specs.Prelude.{ℕ, ◌≡◌, List, ◌++◌, length, drop, ℤ}
+use Rattle.std.specs.Prelude.{ℕ, ◌≡◌, List, ◌++◌, drop, ℤ}
 use Rattle.method.specs.Cast.{cells}
 use Rattle.method.specs.declared.Settings.{Settings}
 use Rattle.method.specs.Answers.{done, passed, verdict}

@@ -1,7 +1,6 @@
 -- The whole room after each transfer: every sum divided, in air. Assumes nothing.
-use Prim.Native.Nat.{ℕ, ◌+◌, ◌-◌, ◌*◌, ◌<◌, ◌≤◌}
+use Prim.Native.Nat.{ℕ, ◌+◌, ◌*◌, ◌<◌, ◌≤◌}
 use mathlib.Core.Path.{◌≡◌, refl, sym, ap, ap₂, ◌∙◌}
-use mathlib.Core.Logic.{inl, inr}
 use mathlib.Core.Bool.{Bool, true, false, cond}
 use mathlib.Core.List.{List, ◌++◌, append_assoc}
 use native.Mathlib.Nat.{zero-add}
@@ -10,11 +9,10 @@ use borrow.Author.Tests.{eq-eqb, ne_eqb}
 use lib.Dec.{eqb}
 use lib.ListN.{length, get_or, set, take, drop}
 use lib.Seq.{get_or-take, length-take-le, take-add, drop_at, drop-append-le}
-use lib.Ieee.{Float, nan, binary64, of_bits}
+use lib.Ieee.{Float, nan}
 use Rattle.laws.specs.Loops.{up}
 use Rattle.laws.specs.Lists.{tab}
 use Rattle.laws.specs.Binary64.{◌⊕◌, ◌⊘◌, +0, ofℕ}
-use Rattle.laws.proofs.Loops.{ups}
 use Rattle.laws.proofs.Lists.{length_tab, get_or_tab}
 use Rattle.laws.proofs.Fill.{up_same, tab_same}
 use Rattle.method.specs.declared.Sides.{Sides}
@@ -26,7 +24,7 @@ use Rattle.theory.specs.Quiet.{Quiet}
 use Rattle.grid.proofs.Steps.{label_in}
 use Rattle.transfer.specs.Transfer.{TwoLevels, restricted_room, summed, corrected_room}
 use Rattle.transfer.specs.Rows.{Stretch, drawn_sum, given_sum, Sums, over_at, over_step, plus_at, plus_step}
-use Rattle.transfer.proofs.Stretch.{stretch_front, stretch_end, stretch_long, stretch_cell, stretch_again, stretch_same, stretch_filled, value_left, value_front}
+use Rattle.transfer.proofs.Stretch.{stretch_front, stretch_long, stretch_cell, stretch_again, stretch_same, stretch_filled, value_left, value_front}
 use Rattle.transfer.proofs.Plain.{drawn_sum_lem, given_sum_lem}
 use Rattle.transfer.proofs.Sums.{two_sums, sums}
 

@@ -1,21 +1,21 @@
 -- A source row and a target row: a cell of the row, the four of a coarse cell, the two of a fine cell, the row of
 -- targets. Assumes nothing.
 use Prim.Native.Nat.{ℕ, zero, suc, ◌+◌, ◌-◌, ◌*◌, ◌/◌, ◌%◌, ◌<◌, ◌≤◌}
-use mathlib.Core.Path.{◌≡◌, refl, sym, ap, ap₂, ◌∙◌}
+use mathlib.Core.Path.{◌≡◌, refl, sym, ap, ◌∙◌}
 use mathlib.Core.Bool.{Bool, true, false, ◌&&◌, cond}
-use mathlib.Core.List.{List, ◌++◌}
+use mathlib.Core.List.{List}
 use native.Mathlib.Numerals.{add-one}
 use native.Mathlib.Omega.{arith}
 use borrow.Author.Rules.{rules}
 use borrow.Author.Tests.{eq-eqb, ne_eqb, lt-ltb, le-ltb, le-leb, lt-leb}
-use lib.Dec.{ltb, leb, eqb}
+use lib.Dec.{ltb}
 use lib.ListN.{length, get_or, set, take, drop}
 use lib.Ieee.{Float, nan}
 use Rattle.laws.specs.Binary64.{◌⊕◌, ◌⊗◌}
 use Rattle.laws.specs.Loops.{up}
 use Rattle.laws.proofs.Loops.{Up, up_more, up_first}
 use Rattle.laws.proofs.Fill.{up_same}
-use Rattle.transfer.specs.Rows.{row_term, four, two, Share, row_step, Rows, Halves, Middle, pair_step, Pairs}
+use Rattle.transfer.specs.Rows.{row_term, four, two, Share, row_step, Halves, Middle, pair_step, Pairs}
 
 -- ---- a cell of the row
 module _ (row : List Float) (p : ℕ) (w a : Float) where

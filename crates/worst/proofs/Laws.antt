@@ -1,19 +1,16 @@
 -- Laws of the walk for the worst cell. Assumes nothing.
-use Prim.Native.Nat.{ℕ, ◌+◌, ◌^◌, ◌≤◌, ◌<◌}
-use mathlib.Core.Path.{◌≡◌, refl, sym, ap, ap₂, ◌∙◌}
+use Prim.Native.Nat.{ℕ, ◌^◌, ◌≤◌, ◌<◌}
+use mathlib.Core.Path.{◌≡◌, sym, ap, ap₂, ◌∙◌}
 use mathlib.Core.Bool.{Bool, true, false, ◌&&◌}
 use mathlib.Core.List.{List}
 use native.Mathlib.Omega.{arith}
 use borrow.Author.Rules.{rules}
 use borrow.Author.Tests.{eq-eqb, ne_eqb}
-use lib.Dec.{T, eqb, eqb→eq}
+use lib.Dec.{eqb, eqb→eq}
 use lib.IntN.{ℤ, pos, nat_abs}
 use lib.Ieee.{Float}
 use lib.ListN.{length}
-use mir.Syntax.{w32, w64}
-use mir.Val.{SFits, to_z, of_z}
-use mir.Facts.{to_z-of_z}
-use Rattle.laws.proofs.Bools.{and_l, and_r, so}
+use Rattle.laws.proofs.Bools.{and_l, and_r}
 use Rattle.method.specs.declared.Sides.{Sides}
 use Rattle.method.specs.declared.Found.{Found}
 use Rattle.method.specs.declared.Found.TheVariants.{Nowhere, At}
@@ -23,7 +20,6 @@ use Rattle.theory.proofs.Firsts.{FirstAt, Search, found, none, search_first, Non
 use Rattle.grid.proofs.Steps.{cells_most}
 use Rattle.answers.specs.declared.Worst.{Worst}
 use Rattle.ticks.specs.Faces.{Residual}
-use Rattle.acceptance.specs.Trial.{Asked}
 use Rattle.acceptance.specs.Cells.{rounded_on}
 use Rattle.signed_numbers.proofs.Laws.{wholes}
 use Rattle.worst.specs.Worst.{cast_of, Sought, worst_of}

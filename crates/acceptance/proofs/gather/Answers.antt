@@ -1,9 +1,5 @@
 -- `acceptance::gather` meets its contract: after i turns the count and the sum are those of the first i cells. Assumes
 -- nothing.
-use Prim.Native.Nat.{◌≤◌, ◌-◌}
-use borrow.Author.Rules.{rules}
-use Rattle.ticks.proofs.Laws.{Gathering}
-use Rattle.acceptance.specs.Cells.{rounded_on}
 use Rattle.acceptance.proofs.Laws.{gathers}
 use Rattle.acceptance.proofs.gather.Goals as goal
 

@@ -1,5 +1,4 @@
 -- `acceptance::refused_at` meets its contract: by the label and the tick. Assumes nothing.
-use borrow.Author.Rules.{rules}
 use Rattle.acceptance.proofs.Laws.{verdicts}
 use Rattle.acceptance.proofs.refused_at.Goals as goal
 

@@ -1,11 +1,6 @@
 -- `acceptance::test` meets its contract: no tick before cell c is refused, and the worst among the first c cells is within
 -- the tolerance. Assumes nothing.
-use Prim.Native.Nat.{◌≤◌, ◌-◌}
-use lib.ListN.{length}
-use Rattle.laws.proofs.Loops.{Up}
-use Rattle.theory.proofs.Firsts.{None, none_more}
-use Rattle.ticks.specs.Worst.{worst_step}
-use Rattle.acceptance.specs.Cells.{rounded_on, refused_at}
+use Rattle.theory.proofs.Firsts.{none_more}
 use Rattle.acceptance.proofs.Laws.{turns, refused_fails, beyond_fails, within_passes}
 use Rattle.acceptance.proofs.test.Goals as goal
 

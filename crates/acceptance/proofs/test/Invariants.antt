@@ -3,10 +3,9 @@
 use Prim.Native.Nat.{◌≤◌, ◌-◌}
 use lib.ListN.{length}
 use Rattle.laws.proofs.Loops.{Up}
-use Rattle.theory.proofs.Firsts.{None, none_more}
+use Rattle.theory.proofs.Firsts.{None}
 use Rattle.ticks.specs.Worst.{worst_step}
 use Rattle.acceptance.specs.Cells.{rounded_on, refused_at}
-use Rattle.acceptance.proofs.Laws.{turns, refused_fails, beyond_fails, within_passes}
 use Rattle.acceptance.proofs.test.Given as goal
 
 abbrev pub invariant-loop-c : goal.invariant-loop-c

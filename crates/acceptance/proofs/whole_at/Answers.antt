@@ -1,5 +1,5 @@
 -- `acceptance::whole_at` meets its contract: by the label. Assumes nothing.
-use borrow.Author.Rules.{rules, sfits_of}
+use borrow.Author.Rules.{sfits_of}
 use Rattle.signed_numbers.proofs.Laws.{gives_wide}
 use Rattle.acceptance.proofs.Laws.{pressure_air, pressure_opening, pressure_wall}
 use Rattle.acceptance.proofs.whole_at.Goals as goal

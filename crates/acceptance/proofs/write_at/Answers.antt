@@ -1,6 +1,5 @@
 -- `acceptance::write_at` meets its contract: one store. Assumes nothing.
 use mathlib.Core.Path.{ap}
-use borrow.Author.Rules.{rules}
 use lib.ListN.{set}
 use Rattle.acceptance.proofs.Laws.{pressed}
 use Rattle.acceptance.proofs.write_at.Goals as goal

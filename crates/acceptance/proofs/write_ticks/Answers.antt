@@ -1,9 +1,7 @@
 -- `acceptance::write_ticks` meets its contract: after c turns the first c pressures stand. Assumes nothing.
-use mathlib.Core.Path.{◌≡◌}
-use Prim.Native.Nat.{◌≤◌, ◌-◌}
-use lib.ListN.{length, length-set}
-use Rattle.laws.proofs.Loops.{Up, ups}
-use Rattle.acceptance.proofs.Laws.{writing, written}
+use lib.ListN.{length-set}
+use Rattle.laws.proofs.Loops.{ups}
+use Rattle.acceptance.proofs.Laws.{written}
 use Rattle.acceptance.proofs.write_ticks.Goals as goal
 
 pub loop-c-init : goal.loop-c-init

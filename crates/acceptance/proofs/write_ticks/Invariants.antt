@@ -1,9 +1,9 @@
 -- `acceptance::write_ticks` meets its contract: after c turns the first c pressures stand. Assumes nothing.
 use mathlib.Core.Path.{◌≡◌}
 use Prim.Native.Nat.{◌≤◌, ◌-◌}
-use lib.ListN.{length, length-set}
-use Rattle.laws.proofs.Loops.{Up, ups}
-use Rattle.acceptance.proofs.Laws.{writing, written}
+use lib.ListN.{length}
+use Rattle.laws.proofs.Loops.{Up}
+use Rattle.acceptance.proofs.Laws.{writing}
 use Rattle.acceptance.proofs.write_ticks.Given as goal
 
 abbrev pub invariant-loop-c : goal.invariant-loop-c

@@ -1,6 +1,5 @@
 -- `airway::answer` meets its contract: what `respond` puts, with the program's own limit. Assumes nothing.
 use native.Mathlib.Omega.{arith}
-use borrow.Author.Rules.{rules}
 use Rattle.method.specs.Program.{program_room}
 use Rattle.answer_session.proofs.FrontLaws.{part_long, at_limit}
 use Rattle.airway.proofs.Laws.{program_put}

@@ -1,7 +1,6 @@
 -- `airway::main` meets its contract: the buffer and the rooms are as large as `answer` asks. Assumes nothing.
 use mathlib.Core.Path.{refl}
 use native.Mathlib.Omega.{arith}
-use borrow.Author.Rules.{rules}
 use Rattle.method.specs.Program.{program_room}
 use Rattle.prints.proofs.Fronts.{input_room_lem}
 use Rattle.answer_session.proofs.FrontLaws.{part_long, rooms_for}

@@ -1,6 +1,5 @@
 -- `airway_large::answer` meets its contract: what `respond` puts, with the room of the greatest casts. Assumes nothing.
 use mathlib.Core.Path.{sym}
-use borrow.Author.Rules.{rules}
 use Rattle.prints.proofs.Fronts.{large_room_lem}
 use Rattle.answer_session.proofs.FrontLaws.{part_long, at_limit, front_put}
 use Rattle.airway_large.proofs.answer.Goals as goal

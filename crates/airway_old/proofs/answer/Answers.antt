@@ -1,6 +1,5 @@
 -- `airway_old::answer` meets its contract: what `respond_old` puts, with the room of the greatest casts. Assumes
 -- nothing.
-use borrow.Author.Rules.{rules}
 use Rattle.answer_session.proofs.FrontLaws.{part_long, at_limit}
 use Rattle.answer_old_session.proofs.OldFrontLaws.{old_front_put}
 use Rattle.airway_old.proofs.answer.Goals as goal

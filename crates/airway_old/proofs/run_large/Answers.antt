@@ -1,7 +1,6 @@
 -- `airway_old::run_large` meets its contract: the arrays' own lengths are the buffer and the rooms for the greatest
 -- casts. Assumes nothing.
 use native.Mathlib.Omega.{arith}
-use borrow.Author.Rules.{rules}
 use Rattle.method.specs.Rooms.{byte_need, float_need, word_need}
 use Rattle.prints.proofs.Fronts.{large_room_lem}
 use Rattle.prints.proofs.OldFronts.{old_buffer_lem}

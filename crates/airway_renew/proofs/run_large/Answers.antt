@@ -1,7 +1,6 @@
 -- `airway_renew::run_large` meets its contract: the arrays' own lengths are the buffer and the rooms for the greatest
 -- casts. Assumes nothing.
 use native.Mathlib.Omega.{arith}
-use borrow.Author.Rules.{rules}
 use Rattle.prints.specs.Prints.{large_room}
 use Rattle.prints.proofs.Fronts.{buffer_for_lem, large_room_lem}
 use Rattle.prints.proofs.OldFronts.{old_buffer_lem}

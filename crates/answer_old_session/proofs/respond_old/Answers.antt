@@ -29,9 +29,9 @@ returns-then-answer-ne0 c = search answers
 
 pub solve_old-requires : goal.solve_old-requires
 solve_old-requires c = record {
-    roomy = search answers;
-    old_is_read = search answers;
-  }
+  roomy = search answers;
+  old_is_read = search answers;
+}
 
 pub shape_of-values : goal.shape_of-values
 shape_of-values c = search answers

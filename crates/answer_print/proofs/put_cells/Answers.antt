@@ -1,7 +1,5 @@
 -- `answer_print::put_cells` meets its contract: i lines are put. Assumes nothing.
-use Prim.Native.Nat.{◌≤◌, ◌-◌}
-use lib.ListN.{length}
-use Rattle.answer_print.proofs.ShowLaws.{lists, Celled}
+use Rattle.answer_print.proofs.ShowLaws.{lists}
 use Rattle.answer_print.proofs.put_cells.Goals as goal
 
 pub loop-i-init : goal.loop-i-init

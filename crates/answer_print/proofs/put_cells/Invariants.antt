@@ -1,7 +1,7 @@
 -- `answer_print::put_cells` meets its contract: i lines are put. Assumes nothing.
 use Prim.Native.Nat.{◌≤◌, ◌-◌}
 use lib.ListN.{length}
-use Rattle.answer_print.proofs.ShowLaws.{lists, Celled}
+use Rattle.answer_print.proofs.ShowLaws.{Celled}
 use Rattle.answer_print.proofs.put_cells.Given as goal
 
 abbrev pub invariant-loop-i : goal.invariant-loop-i

@@ -28,10 +28,10 @@ returns-then-answer-ne0 c = search answers
 
 pub solve_read-requires : goal.solve_read-requires
 solve_read-requires c = record {
-    roomy = search answers;
-    read = search answers;
-    labels_at = search answers;
-  }
+  roomy = search answers;
+  read = search answers;
+  labels_at = search answers;
+}
 
 pub shape_of-values : goal.shape_of-values
 shape_of-values c = search answers

@@ -31,10 +31,10 @@ returns-then-too_many c = search responses
 
 pub answered-requires : goal.answered-requires
 answered-requires c = record {
-    roomy = search responses;
-    header_of = search responses;
-    input_value = search responses;
-  }
+  roomy = search responses;
+  header_of = search responses;
+  input_value = search responses;
+}
 
 pub shape_of-values : goal.shape_of-values
 shape_of-values c = search responses

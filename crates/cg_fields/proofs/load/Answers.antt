@@ -1,9 +1,5 @@
 -- `cg_fields::load` meets its contract: after c turns the room is c turns on. Assumes nothing.
-use Prim.Native.Nat.{◌≤◌, ◌-◌}
-use mathlib.Core.Path.{◌≡◌}
-use lib.ListN.{length}
-use Rattle.laws.proofs.Loops.{Up, ups}
-use Rattle.cg_fields.specs.Turns.{load_turn}
+use Rattle.laws.proofs.Loops.{ups}
 use Rattle.cg_fields.proofs.Made.{load_is}
 use Rattle.cg_fields.proofs.load.Goals as goal
 

@@ -2,9 +2,8 @@
 use Prim.Native.Nat.{◌≤◌, ◌-◌}
 use mathlib.Core.Path.{◌≡◌}
 use lib.ListN.{length}
-use Rattle.laws.proofs.Loops.{Up, ups}
+use Rattle.laws.proofs.Loops.{Up}
 use Rattle.cg_fields.specs.Turns.{load_turn}
-use Rattle.cg_fields.proofs.Made.{load_is}
 use Rattle.cg_fields.proofs.load.Given as goal
 
 abbrev pub invariant-loop-c : goal.invariant-loop-c

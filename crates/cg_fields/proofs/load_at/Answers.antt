@@ -1,5 +1,4 @@
 -- `cg_fields::load_at` meets its contract, by the cell's label. Assumes nothing.
-use borrow.Author.Rules.{rules}
 use Rattle.cg_fields.proofs.Turns.{cell}
 use Rattle.cg_fields.proofs.load_at.Goals as goal
 

@@ -1,5 +1,5 @@
 -- The proof of the cycle of calls {coarse_correction, cycle}. Assumes nothing.
-use Rattle.std.proofs.Common.{rules, arith, refl, ◌∙◌}
+use Rattle.std.proofs.Common.{rules, refl, ◌∙◌}
 use Rattle.cycle.proofs.Levels.{cycles, labels_few, level_asked, air_listed, band_listed, cleared, cleared_end, stroke_end, corrected_end, level_end, same_ready, all_air, corrected_quiet, two_levels, two_rooms, lent_ready, lent_end, home_room, home_quiet, corrected_is, cycle_more}
 use Rattle.cycle.proofs.+coarse_correction_cycle.Goals as goal
 

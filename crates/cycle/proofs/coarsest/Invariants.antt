@@ -7,7 +7,6 @@ use Rattle.laws.proofs.Loops.{Up}
 use Rattle.method.specs.Transfers.{value}
 use Rattle.grid.specs.Entries.{cells_of}
 use Rattle.cycle.specs.Strokes.{coarsest_turn}
-use Rattle.cycle.proofs.Laws.{strokes}
 use Rattle.cycle.proofs.coarsest.Given as goal
 
 abbrev pub invariant-loop-i : goal.invariant-loop-i

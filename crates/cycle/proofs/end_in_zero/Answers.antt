@@ -1,5 +1,4 @@
 -- `cycle::end_in_zero` meets its contract: the literal is the zero. Assumes nothing.
-use mathlib.Core.Path.{refl}
 use borrow.Author.Rules.{rules}
 use Rattle.cycle.proofs.end_in_zero.Goals as goal
 

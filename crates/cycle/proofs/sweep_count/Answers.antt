@@ -1,6 +1,5 @@
 -- `cycle::sweep_count` meets its contract: after i turns n is 2^(i+1). Assumes nothing.
-use Prim.Native.Nat.{◌≤◌, ◌-◌}
-use Rattle.cycle.proofs.Laws.{doubling, Doubled}
+use Rattle.cycle.proofs.Laws.{doubling}
 use Rattle.cycle.proofs.sweep_count.Goals as goal
 
 pub loop-i-init : goal.loop-i-init

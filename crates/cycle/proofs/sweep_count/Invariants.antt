@@ -1,6 +1,6 @@
 -- `cycle::sweep_count` meets its contract: after i turns n is 2^(i+1). Assumes nothing.
 use Prim.Native.Nat.{◌≤◌, ◌-◌}
-use Rattle.cycle.proofs.Laws.{doubling, Doubled}
+use Rattle.cycle.proofs.Laws.{Doubled}
 use Rattle.cycle.proofs.sweep_count.Given as goal
 
 abbrev pub invariant-loop-i : goal.invariant-loop-i

@@ -1,12 +1,5 @@
 -- `cycle::sweep_times` meets its contract: after i turns the room is i turns on. Assumes nothing.
-use Prim.Native.Nat.{◌≤◌, ◌-◌}
-use mathlib.Core.Path.{◌≡◌}
-use lib.ListN.{length}
-use Rattle.laws.specs.Binary64.{+0}
-use Rattle.laws.proofs.Loops.{Up}
-use Rattle.method.specs.Transfers.{value}
-use Rattle.grid.specs.Entries.{cells_of}
-use Rattle.cycle.proofs.Laws.{sweeping, turn}
+use Rattle.cycle.proofs.Laws.{sweeping}
 use Rattle.cycle.proofs.sweep_times.Goals as goal
 
 pub loop-i-init : goal.loop-i-init

@@ -6,7 +6,7 @@ use Rattle.laws.specs.Binary64.{+0}
 use Rattle.laws.proofs.Loops.{Up}
 use Rattle.method.specs.Transfers.{value}
 use Rattle.grid.specs.Entries.{cells_of}
-use Rattle.cycle.proofs.Laws.{sweeping, turn}
+use Rattle.cycle.proofs.Laws.{turn}
 use Rattle.cycle.proofs.sweep_times.Given as goal
 
 abbrev pub invariant-loop-i : goal.invariant-loop-i

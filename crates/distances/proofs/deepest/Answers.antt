@@ -1,9 +1,5 @@
 -- `distances::deepest` meets its contract: after i turns the first i cells are looked at. Assumes nothing.
-use Rattle.laws.proofs.Loops.{Up}
 use Rattle.distances.proofs.SearchCode.{loops}
-use Prim.Native.Nat.{◌≤◌, ◌-◌}
-use lib.ListN.{length}
-use Rattle.distances.specs.Search.{deeper}
 use Rattle.distances.proofs.deepest.Goals as goal
 
 pub loop-i-init : goal.loop-i-init

@@ -1,6 +1,5 @@
 -- `distances::deepest` meets its contract: after i turns the first i cells are looked at. Assumes nothing.
 use Rattle.laws.proofs.Loops.{Up}
-use Rattle.distances.proofs.SearchCode.{loops}
 use Prim.Native.Nat.{◌≤◌, ◌-◌}
 use lib.ListN.{length}
 use Rattle.distances.specs.Search.{deeper}

@@ -1,9 +1,5 @@
 -- `distances::first_lost` meets its contract: no cell before c is lost. Assumes nothing.
-use Rattle.theory.proofs.Firsts.{None}
 use Rattle.distances.proofs.SearchCode.{firsts}
-use Prim.Native.Nat.{◌≤◌, ◌-◌}
-use lib.ListN.{length}
-use Rattle.distances.specs.Search.{lost}
 use Rattle.distances.proofs.first_lost.Goals as goal
 
 pub loop-c-init : goal.loop-c-init

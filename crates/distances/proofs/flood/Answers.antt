@@ -1,11 +1,5 @@
 -- `distances::flood` meets its contract: after i turns the queue is i turns on. Assumes nothing.
-use Rattle.laws.proofs.Loops.{Up}
 use Rattle.distances.proofs.SearchCode.{loops}
-use Prim.Native.Nat.{◌≤◌, ◌-◌}
-use lib.ListN.{length}
-use mathlib.Core.Path.{◌≡◌}
-use Rattle.distances.specs.Search.{queue, turn, Held}
-use Rattle.method.specs.Cast.{cells, is_air, around}
 use Rattle.distances.proofs.flood.Goals as goal
 
 pub loop-head-init : goal.loop-head-init

@@ -1,6 +1,5 @@
 -- `distances::flood` meets its contract: after i turns the queue is i turns on. Assumes nothing.
 use Rattle.laws.proofs.Loops.{Up}
-use Rattle.distances.proofs.SearchCode.{loops}
 use Prim.Native.Nat.{◌≤◌, ◌-◌}
 use lib.ListN.{length}
 use mathlib.Core.Path.{◌≡◌}

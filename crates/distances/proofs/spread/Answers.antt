@@ -16,18 +16,18 @@ reach_along-x-requires c = search boxes
 
 pub reach_along-y-requires : goal.reach_along-y-requires
 reach_along-y-requires c = record {
-    safe = (search boxes, (search boxes, search boxes));
-    stride_nonzero = (search boxes, (search boxes, search boxes));
-  }
+  safe = (search boxes, (search boxes, search boxes));
+  stride_nonzero = (search boxes, (search boxes, search boxes));
+}
 
 pub overflow_mul-nx : goal.overflow_mul-nx
 overflow_mul-nx c = search boxes
 
 pub reach_along-requires : goal.reach_along-requires
 reach_along-requires c = record {
-    safe = (search boxes, (search boxes, search boxes));
-    stride_nonzero = (search boxes, (search boxes, search boxes));
-  }
+  safe = (search boxes, (search boxes, search boxes));
+  stride_nonzero = (search boxes, (search boxes, search boxes));
+}
 
 pub shape_of-room : goal.shape_of-room
 shape_of-room c = search boxes

@@ -1,12 +1,6 @@
 -- `distances::start_all` meets its contract: after i turns the openings among the first i cells are in the queue. Assumes
 -- nothing.
-use Rattle.laws.proofs.Loops.{Up}
 use Rattle.distances.proofs.SearchCode.{loops}
-use Prim.Native.Nat.{◌≤◌, ◌-◌}
-use lib.ListN.{length}
-use mathlib.Core.Path.{◌≡◌}
-use Rattle.distances.specs.Search.{queue, start, Safe}
-use Rattle.method.specs.Cast.{is_opening}
 use Rattle.distances.proofs.start_all.Goals as goal
 
 pub loop-i-init : goal.loop-i-init

@@ -1,9 +1,4 @@
 -- `library_tests::cycles` meets its contract: after every turn u is the cycle's from b, and b stays. Assumes nothing.
-use Prim.Native.Nat.{◌-◌}
-use lib.ListN.{length}
-use Rattle.levels.specs.Levels.{base}
-use Rattle.cycle.specs.Strokes.{Ended}
-use Rattle.cycle.specs.Rooms.{Ready, Cycled, fields_from}
 use Rattle.cycle.proofs.Calls.{cycled_end}
 use Rattle.library_tests.proofs.Laws.{again}
 use Rattle.library_tests.proofs.cycles.Goals as goal

@@ -4,8 +4,6 @@ use lib.ListN.{length}
 use Rattle.levels.specs.Levels.{base}
 use Rattle.cycle.specs.Strokes.{Ended}
 use Rattle.cycle.specs.Rooms.{Ready, Cycled, fields_from}
-use Rattle.cycle.proofs.Calls.{cycled_end}
-use Rattle.library_tests.proofs.Laws.{again}
 use Rattle.library_tests.proofs.cycles.Given as goal
 
 abbrev pub invariant-loop-i : goal.invariant-loop-i

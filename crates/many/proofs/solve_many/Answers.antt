@@ -1,10 +1,9 @@
-use Prim.Native.Nat.{◌+◌, ◌-◌, ◌*◌, ◌≤◌}
+use Prim.Native.Nat.{◌+◌, ◌-◌, ◌*◌}
 use lib.ListN.{length}
 use mathlib.Core.Path.{◌∙◌}
 use native.Mathlib.Omega.{arith}
 use borrow.Rule.Slice.PartMut.{same_len_mid}
 use Rattle.many.proofs.ManySolving.{many_solves, known, checked, clear_asked, solved_is}
-use borrow.Author.Rules.{rules}
 use Rattle.many.proofs.solve_many.Goals as goal
 
 pub overflow_add-b : goal.overflow_add-b

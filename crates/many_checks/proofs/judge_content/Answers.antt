@@ -1,5 +1,4 @@
 use Rattle.many_checks.proofs.ManyJudging.{content_is}
-use borrow.Author.Rules.{rules}
 use Rattle.many_checks.proofs.judge_content.Goals as goal
 
 pub returns : goal.returns

@@ -1,5 +1,4 @@
 use Rattle.many_checks.proofs.ManyJudging.{many_lengths}
-use borrow.Author.Rules.{rules}
 use Rattle.many_checks.proofs.lengths_fit.Goals as goal
 
 pub returns-then-labels-n : goal.returns-then-labels-n

@@ -1,5 +1,4 @@
 use Rattle.many_checks.proofs.ManyJudging.{task_good, task_bad}
-use borrow.Author.Rules.{rules}
 use Rattle.many_checks.proofs.task_fits.Goals as goal
 
 pub returns-then-settings_fit : goal.returns-then-settings_fit

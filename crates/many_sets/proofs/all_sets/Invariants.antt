@@ -1,13 +1,10 @@
 -- `many_sets::all_sets` meets its contract: after s turns the first s stretches are done. Assumes nothing.
 use Prim.Native.Nat.{◌≤◌, ◌-◌, ◌*◌}
-use mathlib.Core.Path.{◌≡◌, refl, ◌∙◌}
-use native.Mathlib.Omega.{arith}
-use borrow.Author.Rules.{rules}
+use mathlib.Core.Path.{◌≡◌}
 use lib.ListN.{length}
 use Rattle.method.specs.Cast.{cells}
 use Rattle.method.specs.Many.{field_count}
 use Rattle.many_sets.specs.Sets.{Done}
-use Rattle.many_sets.proofs.Turning.{done_none, done_more, done_all, ready_again, within, next_from, from_fits}
 use Rattle.many_sets.proofs.all_sets.Given as goal
 
 abbrev pub invariant-loop-s : goal.invariant-loop-s

@@ -1,4 +1,4 @@
-use Rattle.many_sets.proofs.Setting.{setting, value_asked, ready_run, set_refused, set_run}
+use Rattle.many_sets.proofs.Setting.{value_asked, ready_run, set_refused, set_run}
 use borrow.Author.Rules.{rules}
 use Rattle.many_sets.proofs.one_set.Goals as goal
 

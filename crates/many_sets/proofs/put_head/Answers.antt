@@ -1,5 +1,4 @@
 use Rattle.many_sets.proofs.Setting.{head_stored}
-use borrow.Author.Rules.{rules}
 use Rattle.many_sets.proofs.put_head.Goals as goal
 
 pub returns : goal.returns

@@ -2,7 +2,6 @@ use native.Mathlib.Omega.{arith}
 use mathlib.Core.Path.{refl, ap}
 use Prim.Native.Nat.{◌+◌}
 use Rattle.many_sets.proofs.Turning.{part_length, turned}
-use borrow.Author.Rules.{rules}
 use Rattle.many_sets.proofs.take_turn.Goals as goal
 
 pub one_set-answer-requires : goal.one_set-answer-requires

@@ -1,9 +1,5 @@
 -- `prolongation::add_sums` meets its contract: after c turns the first c cells are corrected. Assumes nothing.
-use Prim.Native.Nat.{◌≤◌, ◌-◌}
-use mathlib.Core.Path.{◌≡◌}
-use lib.ListN.{length}
-use Rattle.laws.proofs.Loops.{Up, ups}
-use Rattle.transfer.specs.Rows.{plus_step}
+use Rattle.laws.proofs.Loops.{ups}
 use Rattle.prolongation.proofs.add_sums.Goals as goal
 
 pub loop-c-init : goal.loop-c-init

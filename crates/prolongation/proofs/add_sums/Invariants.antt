@@ -2,7 +2,7 @@
 use Prim.Native.Nat.{◌≤◌, ◌-◌}
 use mathlib.Core.Path.{◌≡◌}
 use lib.ListN.{length}
-use Rattle.laws.proofs.Loops.{Up, ups}
+use Rattle.laws.proofs.Loops.{Up}
 use Rattle.transfer.specs.Rows.{plus_step}
 use Rattle.prolongation.proofs.add_sums.Given as goal
 

@@ -1,9 +1,4 @@
 -- `prolongation::give_all` meets its contract: after r turns the first r coarse rows are added. Assumes nothing.
-use Prim.Native.Nat.{◌≤◌, ◌-◌}
-use mathlib.Core.Path.{◌≡◌}
-use lib.ListN.{length}
-use Rattle.laws.proofs.Loops.{Up}
-use Rattle.transfer.specs.Rows.{coarse_step}
 use Rattle.transfer.proofs.Sources.{spreads}
 use Rattle.prolongation.proofs.give_all.Goals as goal
 

@@ -4,7 +4,6 @@ use mathlib.Core.Path.{◌≡◌}
 use lib.ListN.{length}
 use Rattle.laws.proofs.Loops.{Up}
 use Rattle.transfer.specs.Rows.{coarse_step}
-use Rattle.transfer.proofs.Sources.{spreads}
 use Rattle.prolongation.proofs.give_all.Given as goal
 
 abbrev pub invariant-loop-r : goal.invariant-loop-r

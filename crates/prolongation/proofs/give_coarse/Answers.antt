@@ -1,5 +1,4 @@
 -- `prolongation::give_coarse` meets its contract: the row is in the box where its first cell is. Assumes nothing.
-use borrow.Author.Rules.{rules}
 use Rattle.transfer.specs.Rows.{two}
 use Rattle.transfer.proofs.Sources.{source_as, spreads}
 use Rattle.prolongation.proofs.give_coarse.Goals as goal

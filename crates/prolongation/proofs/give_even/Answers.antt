@@ -1,6 +1,5 @@
 -- `prolongation::give_even` meets its contract: by the contract of its sum. Assumes nothing.
 use Rattle.transfer.proofs.RowLaws.{rows}
-use borrow.Author.Rules.{rules}
 use Rattle.prolongation.proofs.give_even.Goals as goal
 
 pub returns : goal.returns

@@ -1,9 +1,6 @@
 -- `prolongation::give_pairs` meets its contract: after j turns the cells 1 to 2·j stand. Assumes nothing.
-use Prim.Native.Nat.{◌+◌, ◌-◌, ◌*◌, ◌≤◌}
-use mathlib.Core.Path.{◌≡◌}
-use lib.ListN.{length, length-set}
-use Rattle.laws.proofs.Loops.{Up, ups}
-use Rattle.transfer.specs.Rows.{pair_step}
+use lib.ListN.{length-set}
+use Rattle.laws.proofs.Loops.{ups}
 use Rattle.transfer.proofs.RowLaws.{pairs_are}
 use Rattle.prolongation.proofs.give_pairs.Goals as goal
 

@@ -1,10 +1,9 @@
 -- `prolongation::give_pairs` meets its contract: after j turns the cells 1 to 2·j stand. Assumes nothing.
 use Prim.Native.Nat.{◌+◌, ◌-◌, ◌*◌, ◌≤◌}
 use mathlib.Core.Path.{◌≡◌}
-use lib.ListN.{length, length-set}
-use Rattle.laws.proofs.Loops.{Up, ups}
+use lib.ListN.{length}
+use Rattle.laws.proofs.Loops.{Up}
 use Rattle.transfer.specs.Rows.{pair_step}
-use Rattle.transfer.proofs.RowLaws.{pairs_are}
 use Rattle.prolongation.proofs.give_pairs.Given as goal
 
 abbrev pub invariant-loop-j : goal.invariant-loop-j

@@ -1,9 +1,4 @@
 -- `prolongation::sum_rows` meets its contract: after r turns the first r rows have their sums. Assumes nothing.
-use Prim.Native.Nat.{◌+◌, ◌-◌, ◌*◌, ◌≤◌}
-use mathlib.Core.Path.{◌≡◌}
-use lib.ListN.{length, take, drop}
-use Rattle.method.specs.Cast.{cells}
-use Rattle.transfer.specs.Rows.{Stretch, given_sum}
 use Rattle.transfer.proofs.Sums.{sums}
 use Rattle.prolongation.proofs.sum_rows.Goals as goal
 

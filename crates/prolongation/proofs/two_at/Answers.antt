@@ -1,6 +1,5 @@
 -- `prolongation::two_at` meets its contract: by where the fine cell lies. Assumes nothing.
 use Rattle.transfer.proofs.RowLaws.{two_even, two_odd}
-use borrow.Author.Rules.{rules}
 use Rattle.prolongation.proofs.two_at.Goals as goal
 
 pub returns-then-i-eq0 : goal.returns-then-i-eq0

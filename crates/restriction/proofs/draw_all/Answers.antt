@@ -1,9 +1,4 @@
 -- `restriction::draw_all` meets its contract: after r turns the first r fine rows are added. Assumes nothing.
-use Prim.Native.Nat.{◌-◌, ◌≤◌}
-use mathlib.Core.Path.{◌≡◌}
-use lib.ListN.{length}
-use Rattle.laws.proofs.Loops.{Up}
-use Rattle.transfer.specs.Rows.{fine_step}
 use Rattle.transfer.proofs.Sources.{spreads}
 use Rattle.restriction.proofs.draw_all.Goals as goal
 

@@ -1,5 +1,4 @@
 -- `restriction::draw_at` meets its contract: by the contract of the four. Assumes nothing.
-use borrow.Author.Rules.{rules}
 use Rattle.transfer.proofs.RowLaws.{rows}
 use Rattle.restriction.proofs.draw_at.Goals as goal
 

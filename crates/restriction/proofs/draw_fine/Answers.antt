@@ -1,5 +1,4 @@
 -- `restriction::draw_fine` meets its contract: the row is in the box where its first cell is. Assumes nothing.
-use borrow.Author.Rules.{rules}
 use Rattle.transfer.proofs.Sources.{spreads}
 use Rattle.restriction.proofs.draw_fine.Goals as goal
 

@@ -1,5 +1,4 @@
 -- `restriction::draw_inside` meets its contract: by the contract of the four. Assumes nothing.
-use borrow.Author.Rules.{rules}
 use Rattle.transfer.proofs.RowLaws.{rows}
 use Rattle.restriction.proofs.draw_inside.Goals as goal
 

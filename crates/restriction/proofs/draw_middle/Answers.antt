@@ -1,9 +1,6 @@
 -- `restriction::draw_middle` meets its contract: after j turns the cells 1 to j stand. Assumes nothing.
-use Prim.Native.Nat.{◌+◌, ◌-◌, ◌≤◌}
-use mathlib.Core.Path.{◌≡◌}
-use lib.ListN.{length, length-set}
-use Rattle.laws.proofs.Loops.{Up, ups}
-use Rattle.transfer.specs.Rows.{four, row_step}
+use lib.ListN.{length-set}
+use Rattle.laws.proofs.Loops.{ups}
 use Rattle.transfer.proofs.RowLaws.{middle_is}
 use Rattle.restriction.proofs.draw_middle.Goals as goal
 

@@ -1,10 +1,9 @@
 -- `restriction::draw_middle` meets its contract: after j turns the cells 1 to j stand. Assumes nothing.
 use Prim.Native.Nat.{◌+◌, ◌-◌, ◌≤◌}
 use mathlib.Core.Path.{◌≡◌}
-use lib.ListN.{length, length-set}
-use Rattle.laws.proofs.Loops.{Up, ups}
+use lib.ListN.{length}
+use Rattle.laws.proofs.Loops.{Up}
 use Rattle.transfer.specs.Rows.{four, row_step}
-use Rattle.transfer.proofs.RowLaws.{middle_is}
 use Rattle.restriction.proofs.draw_middle.Given as goal
 
 abbrev pub invariant-loop-j : goal.invariant-loop-j

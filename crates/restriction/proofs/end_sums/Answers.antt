@@ -1,9 +1,5 @@
 -- `restriction::end_sums` meets its contract: after c turns the first c sums are divided. Assumes nothing.
-use Prim.Native.Nat.{◌≤◌, ◌-◌}
-use mathlib.Core.Path.{◌≡◌}
-use lib.ListN.{length}
-use Rattle.laws.proofs.Loops.{Up, ups}
-use Rattle.transfer.specs.Rows.{over_step}
+use Rattle.laws.proofs.Loops.{ups}
 use Rattle.restriction.proofs.end_sums.Goals as goal
 
 pub loop-c-init : goal.loop-c-init

@@ -1,5 +1,4 @@
 -- `restriction::four_at` meets its contract: by the contract of one cell. Assumes nothing.
-use borrow.Author.Rules.{rules}
 use Rattle.transfer.proofs.RowLaws.{rows}
 use Rattle.restriction.proofs.four_at.Goals as goal
 

@@ -1,9 +1,4 @@
 -- `restriction::sum_rows` meets its contract: after r turns the first r rows have their sums. Assumes nothing.
-use Prim.Native.Nat.{◌+◌, ◌-◌, ◌*◌, ◌≤◌}
-use mathlib.Core.Path.{◌≡◌}
-use lib.ListN.{length, take, drop}
-use Rattle.method.specs.Cast.{cells}
-use Rattle.transfer.specs.Rows.{Stretch, drawn_sum}
 use Rattle.transfer.proofs.Sums.{sums}
 use Rattle.restriction.proofs.sum_rows.Goals as goal
 

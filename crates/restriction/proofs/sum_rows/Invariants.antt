@@ -4,7 +4,6 @@ use mathlib.Core.Path.{◌≡◌}
 use lib.ListN.{length, take, drop}
 use Rattle.method.specs.Cast.{cells}
 use Rattle.transfer.specs.Rows.{Stretch, drawn_sum}
-use Rattle.transfer.proofs.Sums.{sums}
 use Rattle.restriction.proofs.sum_rows.Given as goal
 
 abbrev pub invariant-loop-r : goal.invariant-loop-r

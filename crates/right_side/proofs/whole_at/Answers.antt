@@ -1,5 +1,5 @@
 -- `right_side::whole_at` meets its contract: after i turns the sum is that of the first i cells. Assumes nothing.
-use Prim.Native.Nat.{◌≤◌, ◌-◌, ◌^◌}
+use Prim.Native.Nat.{◌≤◌, ◌^◌}
 use mathlib.Core.Path.{◌≡◌, ap, ◌∙◌}
 use native.Mathlib.Omega.{arith}
 use lib.IntN.{ℤ, nat_abs}
@@ -8,7 +8,7 @@ use mir.Val.{SFits, to_z, of_z}
 use mir.Facts.{to_z-of_z}
 use Rattle.method.specs.Cast.{field}
 use Rattle.signed_numbers.proofs.Laws.{abs_32, gives_wide}
-use Rattle.right_side.proofs.Laws.{Gathering, sides, gathering_end}
+use Rattle.right_side.proofs.Laws.{sides, gathering_end}
 use Rattle.right_side.proofs.whole_at.Goals as goal
 
 pub neighbours-around-requires : goal.neighbours-around-requires

@@ -3,7 +3,7 @@ use Prim.Native.Nat.{◌≤◌, ◌-◌}
 use mathlib.Core.Path.{◌≡◌}
 use lib.ListN.{length}
 use Rattle.laws.proofs.Loops.{Up}
-use Rattle.rooms.proofs.Clears.{zeroed, clears}
+use Rattle.rooms.proofs.Clears.{zeroed}
 use Rattle.rooms.proofs.clear_bytes.Given as goal
 
 abbrev pub invariant-loop-i : goal.invariant-loop-i

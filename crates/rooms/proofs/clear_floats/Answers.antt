@@ -1,10 +1,5 @@
 -- `rooms::clear_floats` meets its contract: after i turns i elements are zero. Assumes nothing.
-use Prim.Native.Nat.{◌≤◌, ◌-◌}
-use mathlib.Core.Path.{◌≡◌}
-use lib.ListN.{length}
-use Rattle.laws.specs.Binary64.{+0}
-use Rattle.laws.proofs.Loops.{Up}
-use Rattle.rooms.proofs.Clears.{zeroed, clears}
+use Rattle.rooms.proofs.Clears.{clears}
 use Rattle.rooms.proofs.clear_floats.Goals as goal
 
 pub loop-i-init : goal.loop-i-init

@@ -4,7 +4,7 @@ use mathlib.Core.Path.{◌≡◌}
 use lib.ListN.{length}
 use Rattle.laws.specs.Binary64.{+0}
 use Rattle.laws.proofs.Loops.{Up}
-use Rattle.rooms.proofs.Clears.{zeroed, clears}
+use Rattle.rooms.proofs.Clears.{zeroed}
 use Rattle.rooms.proofs.clear_floats.Given as goal
 
 abbrev pub invariant-loop-i : goal.invariant-loop-i

@@ -1,5 +1,4 @@
 use Rattle.rounds.proofs.Turns.{advanced_done}
-use borrow.Author.Rules.{rules}
 use Rattle.rounds.proofs.move_on.Goals as goal
 
 pub returns : goal.returns

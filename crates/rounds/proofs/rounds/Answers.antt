@@ -1,11 +1,8 @@
 -- `rounds::rounds` meets its contract: after so many rounds, as many are left as the limit allows. Assumes nothing.
-use Prim.Native.Nat.{◌-◌, ◌≤◌}
-use mathlib.Core.Path.{◌≡◌, refl, ◌∙◌}
+use mathlib.Core.Path.{refl, ◌∙◌}
 use borrow.Author.Rules.{rules}
-use lib.ListN.{length}
-use Rattle.rounds.specs.Rounds.{Calm}
 use Rattle.rounds.proofs.Calm.{scaled_calm, scaled_t, advanced_calm, go_finite}
-use Rattle.rounds.proofs.Budget.{Left, budget, left_stall, left_more, held_ready}
+use Rattle.rounds.proofs.Budget.{budget, left_stall, left_more, held_ready}
 use Rattle.rounds.proofs.rounds.Goals as goal
 
 pub loop-done-init : goal.loop-done-init

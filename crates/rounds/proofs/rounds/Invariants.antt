@@ -1,11 +1,9 @@
 -- `rounds::rounds` meets its contract: after so many rounds, as many are left as the limit allows. Assumes nothing.
 use Prim.Native.Nat.{◌-◌, ◌≤◌}
-use mathlib.Core.Path.{◌≡◌, refl, ◌∙◌}
-use borrow.Author.Rules.{rules}
+use mathlib.Core.Path.{◌≡◌}
 use lib.ListN.{length}
 use Rattle.rounds.specs.Rounds.{Calm}
-use Rattle.rounds.proofs.Calm.{scaled_calm, scaled_t, advanced_calm, go_finite}
-use Rattle.rounds.proofs.Budget.{Left, budget, left_stall, left_more, held_ready}
+use Rattle.rounds.proofs.Budget.{Left}
 use Rattle.rounds.proofs.rounds.Given as goal
 
 abbrev pub invariant-loop-done : goal.invariant-loop-done

@@ -1,6 +1,5 @@
 use mathlib.Core.Path.{refl}
 use Rattle.rounds.proofs.Budget.{budget, held_ready, start_calm}
-use borrow.Author.Rules.{rules}
 use Rattle.rounds.proofs.run.Goals as goal
 
 pub start-requires : goal.start-requires

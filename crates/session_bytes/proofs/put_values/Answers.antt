@@ -1,7 +1,5 @@
 -- `session_bytes::put_values` meets its contract: i values are put. Assumes nothing.
-use Prim.Native.Nat.{◌≤◌, ◌-◌}
-use lib.ListN.{length}
-use Rattle.session_bytes.proofs.PartLaws.{valuing, Valued}
+use Rattle.session_bytes.proofs.PartLaws.{valuing}
 use Rattle.session_bytes.proofs.put_values.Goals as goal
 
 pub loop-i-init : goal.loop-i-init

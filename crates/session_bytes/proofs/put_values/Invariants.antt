@@ -1,7 +1,7 @@
 -- `session_bytes::put_values` meets its contract: i values are put. Assumes nothing.
 use Prim.Native.Nat.{◌≤◌, ◌-◌}
 use lib.ListN.{length}
-use Rattle.session_bytes.proofs.PartLaws.{valuing, Valued}
+use Rattle.session_bytes.proofs.PartLaws.{Valued}
 use Rattle.session_bytes.proofs.put_values.Given as goal
 
 abbrev pub invariant-loop-i : goal.invariant-loop-i

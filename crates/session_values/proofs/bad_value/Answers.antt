@@ -1,8 +1,5 @@
 -- `session_values::bad_value` meets its contract: no value before c is bad. Assumes nothing.
-use Prim.Native.Nat.{◌≤◌, ◌-◌}
-use Rattle.session_values.specs.Body.{bad_value_in}
 use Rattle.checks.proofs.CheckLaws.{searched}
-use Rattle.theory.proofs.Firsts.{None}
 use Rattle.session_values.proofs.bad_value.Goals as goal
 
 pub loop-c-init : goal.loop-c-init

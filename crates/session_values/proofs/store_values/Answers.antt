@@ -1,9 +1,5 @@
 -- `session_values::store_values` meets its contract: the first c values are stored. Assumes nothing.
-use Prim.Native.Nat.{◌≤◌, ◌-◌}
-use mathlib.Core.Path.{◌≡◌}
-use lib.ListN.{length}
-use Rattle.session_values.specs.Body.{value_in}
-use Rattle.session_values.proofs.WordLaws.{stores, Stored}
+use Rattle.session_values.proofs.WordLaws.{stores}
 use Rattle.session_values.proofs.store_values.Goals as goal
 
 pub loop-c-init : goal.loop-c-init

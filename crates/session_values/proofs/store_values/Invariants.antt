@@ -3,7 +3,7 @@ use Prim.Native.Nat.{◌≤◌, ◌-◌}
 use mathlib.Core.Path.{◌≡◌}
 use lib.ListN.{length}
 use Rattle.session_values.specs.Body.{value_in}
-use Rattle.session_values.proofs.WordLaws.{stores, Stored}
+use Rattle.session_values.proofs.WordLaws.{Stored}
 use Rattle.session_values.proofs.store_values.Given as goal
 
 abbrev pub invariant-loop-c : goal.invariant-loop-c

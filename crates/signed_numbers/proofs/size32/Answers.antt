@@ -1,7 +1,6 @@
 -- `signed_numbers::size32` meets its contract: the size of an i32 is at most 2 ^ 31. Assumes nothing.
 use mathlib.Core.Path.{◌≡◌, ap, ◌∙◌}
 use native.Mathlib.Omega.{arith}
-use borrow.Author.Rules.{rules}
 use lib.IntN.{nat_abs}
 use Rattle.signed_numbers.proofs.Laws.{abs_32, wholes}
 use Rattle.signed_numbers.proofs.size32.Goals as goal

@@ -1,9 +1,4 @@
 -- `smooth::clear_front` meets its contract: after c turns the room is c stores on. Assumes nothing.
-use Prim.Native.Nat.{◌≤◌, ◌-◌}
-use mathlib.Core.Path.{◌≡◌}
-use lib.ListN.{length}
-use Rattle.laws.proofs.Loops.{Up}
-use Rattle.smooth.specs.Fields.{clear_turn}
 use Rattle.smooth.proofs.Fields.{fills}
 use Rattle.smooth.proofs.clear_front.Goals as goal
 

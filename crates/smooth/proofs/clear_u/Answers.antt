@@ -1,5 +1,4 @@
 -- `smooth::clear_u` meets its contract, by the contracts of the two that it calls. Assumes nothing.
-use borrow.Author.Rules.{rules}
 use Rattle.smooth.proofs.Fields.{fills}
 use Rattle.smooth.proofs.clear_u.Goals as goal
 

@@ -1,9 +1,4 @@
 -- `smooth::keep_u` meets its contract: after c turns the room is c stores on. Assumes nothing.
-use Prim.Native.Nat.{◌≤◌, ◌-◌}
-use mathlib.Core.Path.{◌≡◌}
-use lib.ListN.{length}
-use Rattle.laws.proofs.Loops.{Up}
-use Rattle.smooth.specs.Fields.{keep_turn}
 use Rattle.smooth.proofs.Fields.{fills}
 use Rattle.smooth.proofs.keep_u.Goals as goal
 

@@ -4,7 +4,6 @@ use mathlib.Core.Path.{◌≡◌}
 use lib.ListN.{length}
 use Rattle.laws.proofs.Loops.{Up}
 use Rattle.smooth.specs.Fields.{keep_turn}
-use Rattle.smooth.proofs.Fields.{fills}
 use Rattle.smooth.proofs.keep_u.Given as goal
 
 abbrev pub invariant-loop-c : goal.invariant-loop-c

@@ -1,7 +1,5 @@
-use Prim.Native.Nat.{◌≤◌}
 use native.Mathlib.Omega.{arith}
 use Rattle.solve.proofs.Solving.{solves, known, checked, clear_asked, solved_is}
-use borrow.Author.Rules.{rules}
 use Rattle.solve.proofs.solve.Goals as goal
 
 pub overflow_add-b : goal.overflow_add-b

@@ -1,6 +1,5 @@
 use mathlib.Core.Path.{◌∙◌}
 use Rattle.solve.proofs.Working.{working, prepare_asked, run_asked, of_cast, worked_run}
-use borrow.Author.Rules.{rules}
 use Rattle.solve.proofs.work.Goals as goal
 
 pub distances-walked-requires : goal.distances-walked-requires

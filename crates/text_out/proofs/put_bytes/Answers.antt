@@ -1,8 +1,5 @@
 -- `text_out::put_bytes` meets its contract: i bytes are put. Assumes nothing.
-use Prim.Native.Nat.{◌≤◌, ◌-◌}
-use mathlib.Core.Path.{◌≡◌}
-use lib.ListN.{length}
-use Rattle.text_out.proofs.PutLaws.{copies, Copied}
+use Rattle.text_out.proofs.PutLaws.{copies}
 use Rattle.text_out.proofs.put_bytes.Goals as goal
 
 pub loop-i-init : goal.loop-i-init

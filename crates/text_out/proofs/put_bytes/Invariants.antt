@@ -2,7 +2,7 @@
 use Prim.Native.Nat.{◌≤◌, ◌-◌}
 use mathlib.Core.Path.{◌≡◌}
 use lib.ListN.{length}
-use Rattle.text_out.proofs.PutLaws.{copies, Copied}
+use Rattle.text_out.proofs.PutLaws.{Copied}
 use Rattle.text_out.proofs.put_bytes.Given as goal
 
 abbrev pub invariant-loop-i : goal.invariant-loop-i

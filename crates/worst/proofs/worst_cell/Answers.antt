@@ -1,11 +1,5 @@
 -- `worst::worst_cell` meets its contract: no cell before c is worst. Assumes nothing.
-use Prim.Native.Nat.{◌≤◌, ◌-◌}
 use borrow.Author.Rules.{rules}
-use lib.ListN.{length}
-use Rattle.method.specs.Cast.{is_worst}
-use Rattle.theory.proofs.Firsts.{None}
-use Rattle.acceptance.specs.Cells.{rounded_on}
-use Rattle.worst.specs.Worst.{cast_of}
 use Rattle.worst.proofs.Laws.{few, searching}
 use Rattle.worst.proofs.worst_cell.Goals as goal
 

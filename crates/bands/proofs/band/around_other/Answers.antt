@@ -1,10 +1,5 @@
 -- `bands::band::around_other` meets its contract: no hit yet, in the parents before q and in the children before t.
 -- Assumes nothing.
-use Prim.Native.Nat.{◌≤◌, ◌-◌}
-use mathlib.Core.Path.{◌≡◌}
-use mathlib.Core.Bool.{false}
-use Rattle.bands.specs.Other.{child_other, parent_other}
-use Rattle.levels.proofs.Rooms.{None}
 use Rattle.bands.proofs.Hits.{hits}
 use Rattle.bands.proofs.band.around_other.Goals as goal
 

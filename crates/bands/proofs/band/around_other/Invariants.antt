@@ -5,7 +5,6 @@ use mathlib.Core.Path.{◌≡◌}
 use mathlib.Core.Bool.{false}
 use Rattle.bands.specs.Other.{child_other, parent_other}
 use Rattle.levels.proofs.Rooms.{None}
-use Rattle.bands.proofs.Hits.{hits}
 use Rattle.bands.proofs.band.around_other.Given as goal
 
 abbrev pub invariant-loop-t : goal.invariant-loop-t

@@ -1,5 +1,4 @@
 -- `bands::band::block_other` meets its contract: the cell is the child, and inside. Assumes nothing.
-use borrow.Author.Rules.{rules}
 use Rattle.bands.proofs.Hits.{on_blocks}
 use Rattle.bands.proofs.band.block_other.Goals as goal
 

@@ -1,5 +1,4 @@
 -- `bands::band::corner` meets its contract, by its tests. Assumes nothing.
-use borrow.Author.Rules.{rules}
 use Rattle.bands.proofs.Blocks.{corners}
 use Rattle.bands.proofs.band.corner.Goals as goal
 

@@ -6,7 +6,6 @@ use mathlib.Core.Bool.{false}
 use Rattle.bands.specs.Other.{child_other, parent_other}
 use Rattle.levels.specs.Kin.{parent_spot}
 use Rattle.levels.proofs.Rooms.{None}
-use Rattle.bands.proofs.Hits.{on_blocks}
 use Rattle.bands.proofs.band.in_block_other.Given as goal
 
 abbrev pub invariant-loop-t : goal.invariant-loop-t

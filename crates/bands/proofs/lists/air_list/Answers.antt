@@ -5,18 +5,18 @@ use Rattle.bands.proofs.lists.air_list.Goals as goal
 
 pub wave_list-swept-requires : goal.wave_list-swept-requires
 wave_list-swept-requires c = record {
-    fit = search airs;
-    labels_in_bounds = search airs;
-  }
+  fit = search airs;
+  labels_in_bounds = search airs;
+}
 
 pub overflow_add-at : goal.overflow_add-at
 overflow_add-at c = search airs
 
 pub left_list-rest-requires : goal.left_list-rest-requires
 left_list-rest-requires c = record {
-    fit = search airs;
-    g_in_bounds = search airs;
-  }
+  fit = search airs;
+  g_in_bounds = search airs;
+}
 
 pub overflow_add-result : goal.overflow_add-result
 overflow_add-result c =

@@ -1,8 +1,5 @@
 -- `bands::lists::all_lists` meets its contract: the lists of the levels below k stand in the room. Assumes nothing.
-use Prim.Native.Nat.{◌≤◌, ◌-◌}
-use Rattle.levels.specs.Levels.{base}
-use Rattle.bands.specs.AllLists.{base_labels}
-use Rattle.bands.proofs.Gathered.{Gathering, gatherings}
+use Rattle.bands.proofs.Gathered.{gatherings}
 use Rattle.bands.proofs.lists.all_lists.Goals as goal
 
 pub loop-k-init : goal.loop-k-init

@@ -2,7 +2,7 @@
 use Prim.Native.Nat.{◌≤◌, ◌-◌}
 use Rattle.levels.specs.Levels.{base}
 use Rattle.bands.specs.AllLists.{base_labels}
-use Rattle.bands.proofs.Gathered.{Gathering, gatherings}
+use Rattle.bands.proofs.Gathered.{Gathering}
 use Rattle.bands.proofs.lists.all_lists.Given as goal
 
 abbrev pub invariant-loop-k : goal.invariant-loop-k

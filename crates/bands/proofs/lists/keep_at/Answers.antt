@@ -19,9 +19,9 @@ number_of-c-requires c = search on_waves
 
 pub keep_cell-requires : goal.keep_cell-requires
 keep_cell-requires c = record {
-    fit = search on_waves;
-    c_bound = (search on_waves, search on_waves);
-  }
+  fit = search on_waves;
+  c_bound = (search on_waves, search on_waves);
+}
 
 pub shape_of-words : goal.shape_of-words
 shape_of-words c = search on_waves

@@ -13,15 +13,15 @@ cell_count-m-requires c = search keeps_either
 
 pub keep_band-requires : goal.keep_band-requires
 keep_band-requires c = record {
-    band_asked = search keeps_either;
-    c_in_bounds = search keeps_either;
-  }
+  band_asked = search keeps_either;
+  c_in_bounds = search keeps_either;
+}
 
 pub keep_air-requires : goal.keep_air-requires
 keep_air-requires c = record {
-    fit = search keeps_either;
-    n_value = search keeps_either;
-  }
+  fit = search keeps_either;
+  n_value = search keeps_either;
+}
 
 pub shape_of-words-then-band : goal.shape_of-words-then-band
 shape_of-words-then-band c = search keeps_either

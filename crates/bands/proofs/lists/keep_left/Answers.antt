@@ -10,9 +10,9 @@ is_left-requires c = search keeps
 
 pub keep-requires : goal.keep-requires
 keep-requires c = record {
-    fit = search keeps;
-    n_value = (search keeps, search keeps, search keeps);
-  }
+  fit = search keeps;
+  n_value = (search keeps, search keeps, search keeps);
+}
 
 pub shape_of-words : goal.shape_of-words
 shape_of-words c = search keeps

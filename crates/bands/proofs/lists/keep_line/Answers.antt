@@ -1,8 +1,4 @@
 -- `bands::lists::keep_line` meets its contract: up to j the cells stand in the room. Assumes nothing.
-use Prim.Native.Nat.{◌≤◌, ◌-◌}
-use Rattle.theory.specs.Waves.{strung, wave_cell}
-use Rattle.grid.specs.Entries.{entry_of}
-use Rattle.bands.specs.Lists.{smoothed, Placed}
 use Rattle.bands.proofs.Chosen.{on_waves}
 use Rattle.bands.proofs.lists.keep_line.Goals as goal
 
@@ -14,10 +10,10 @@ loop-j-init c = search on_waves
 
 pub keep_at-next-requires : goal.keep_at-next-requires
 keep_at-next-requires c = record {
-    fit = search on_waves;
-    j_lt_ny = search on_waves;
-    j_in_bounds = search on_waves;
-  }
+  fit = search on_waves;
+  j_lt_ny = search on_waves;
+  j_in_bounds = search on_waves;
+}
 
 pub overflow_add-j : goal.overflow_add-j
 overflow_add-j c = search on_waves

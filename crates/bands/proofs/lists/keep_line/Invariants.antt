@@ -3,7 +3,6 @@ use Prim.Native.Nat.{◌≤◌, ◌-◌}
 use Rattle.theory.specs.Waves.{strung, wave_cell}
 use Rattle.grid.specs.Entries.{entry_of}
 use Rattle.bands.specs.Lists.{smoothed, Placed}
-use Rattle.bands.proofs.Chosen.{on_waves}
 use Rattle.bands.proofs.lists.keep_line.Given as goal
 
 abbrev pub invariant-loop-j : goal.invariant-loop-j

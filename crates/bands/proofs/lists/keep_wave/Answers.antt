@@ -1,8 +1,4 @@
 -- `bands::lists::keep_wave` meets its contract: up to k the lines stand in the room. Assumes nothing.
-use Prim.Native.Nat.{◌≤◌, ◌-◌}
-use Rattle.theory.specs.Waves.{strung, wave_line}
-use Rattle.grid.specs.Entries.{entry_of}
-use Rattle.bands.specs.Lists.{smoothed, Placed}
 use Rattle.bands.proofs.Chosen.{on_waves}
 use Rattle.bands.proofs.lists.keep_wave.Goals as goal
 
@@ -14,10 +10,10 @@ loop-k-init c = search on_waves
 
 pub keep_line-next-requires : goal.keep_line-next-requires
 keep_line-next-requires c = record {
-    fit = search on_waves;
-    k_lt_nz = search on_waves;
-    k_in_bounds = search on_waves;
-  }
+  fit = search on_waves;
+  k_lt_nz = search on_waves;
+  k_in_bounds = search on_waves;
+}
 
 pub overflow_add-k : goal.overflow_add-k
 overflow_add-k c = search on_waves

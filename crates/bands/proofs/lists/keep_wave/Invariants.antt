@@ -3,7 +3,6 @@ use Prim.Native.Nat.{◌≤◌, ◌-◌}
 use Rattle.theory.specs.Waves.{strung, wave_line}
 use Rattle.grid.specs.Entries.{entry_of}
 use Rattle.bands.specs.Lists.{smoothed, Placed}
-use Rattle.bands.proofs.Chosen.{on_waves}
 use Rattle.bands.proofs.lists.keep_wave.Given as goal
 
 abbrev pub invariant-loop-k : goal.invariant-loop-k

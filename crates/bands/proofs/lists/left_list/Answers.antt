@@ -1,8 +1,4 @@
 -- `bands::lists::left_list` meets its contract: up to c the cells that are left stand in the room. Assumes nothing.
-use Prim.Native.Nat.{◌≤◌, ◌-◌}
-use Rattle.theory.specs.Waves.{strung}
-use Rattle.grid.specs.Entries.{entry_of}
-use Rattle.bands.specs.Lists.{left_at, Placed}
 use Rattle.bands.proofs.Chosen.{on_left}
 use Rattle.bands.proofs.lists.left_list.Goals as goal
 
@@ -14,9 +10,9 @@ loop-c-init c = search on_left
 
 pub keep_left-next-requires : goal.keep_left-next-requires
 keep_left-next-requires c = record {
-    fit = search on_left;
-    c_bound = (search on_left, search on_left);
-  }
+  fit = search on_left;
+  c_bound = (search on_left, search on_left);
+}
 
 pub overflow_add-c : goal.overflow_add-c
 overflow_add-c c = search on_left

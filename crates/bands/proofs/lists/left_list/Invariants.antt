@@ -3,7 +3,6 @@ use Prim.Native.Nat.{◌≤◌, ◌-◌}
 use Rattle.theory.specs.Waves.{strung}
 use Rattle.grid.specs.Entries.{entry_of}
 use Rattle.bands.specs.Lists.{left_at, Placed}
-use Rattle.bands.proofs.Chosen.{on_left}
 use Rattle.bands.proofs.lists.left_list.Given as goal
 
 abbrev pub invariant-loop-c : goal.invariant-loop-c

@@ -31,9 +31,9 @@ slice_bounds-air_list-end c = search levelling
 
 pub air_list-requires : goal.air_list-requires
 air_list-requires c = record {
-    fit = search levelling;
-    labels_in_bounds = search levelling;
-  }
+  fit = search levelling;
+  labels_in_bounds = search levelling;
+}
 
 pub shape_of-words : goal.shape_of-words
 shape_of-words c = search levelling

@@ -1,8 +1,4 @@
 -- `bands::lists::wave_list` meets its contract: up to w the waves stand in the room. Assumes nothing.
-use Prim.Native.Nat.{◌≤◌, ◌-◌}
-use Rattle.theory.specs.Waves.{strung, wave_of}
-use Rattle.grid.specs.Entries.{entry_of}
-use Rattle.bands.specs.Lists.{smoothed, Placed}
 use Rattle.bands.proofs.Chosen.{on_lists}
 use Rattle.bands.proofs.lists.wave_list.Goals as goal
 
@@ -26,9 +22,9 @@ loop-w-init c = search on_lists
 
 pub keep_wave-next-requires : goal.keep_wave-next-requires
 keep_wave-next-requires c = record {
-    fit = search on_lists;
-    w_in_bounds = search on_lists;
-  }
+  fit = search on_lists;
+  w_in_bounds = search on_lists;
+}
 
 pub overflow_add-w : goal.overflow_add-w
 overflow_add-w c = search on_lists

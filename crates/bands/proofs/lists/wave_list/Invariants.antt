@@ -3,7 +3,6 @@ use Prim.Native.Nat.{◌≤◌, ◌-◌}
 use Rattle.theory.specs.Waves.{strung, wave_of}
 use Rattle.grid.specs.Entries.{entry_of}
 use Rattle.bands.specs.Lists.{smoothed, Placed}
-use Rattle.bands.proofs.Chosen.{on_lists}
 use Rattle.bands.proofs.lists.wave_list.Given as goal
 
 abbrev pub invariant-loop-w : goal.invariant-loop-w

@@ -1,11 +1,9 @@
 -- `cg_fields::entries::advance` meets its contract: after c turns the room is c stores on. Assumes nothing.
 use Prim.Native.Nat.{◌≤◌, ◌-◌}
 use mathlib.Core.Path.{◌≡◌}
-use native.Mathlib.Omega.{arith}
 use lib.ListN.{length}
-use Rattle.laws.proofs.Loops.{Up, ups}
+use Rattle.laws.proofs.Loops.{Up}
 use Rattle.cg_fields.specs.Entries.{advance_new, fill_at}
-use Rattle.cg_fields.proofs.Calm.{advance_more, advance_quiet}
 use Rattle.cg_fields.proofs.entries.advance.Given as goal
 
 abbrev pub invariant-loop-c : goal.invariant-loop-c

@@ -5,9 +5,9 @@ use Rattle.cg_fields.proofs.entries.aim.Goals as goal
 
 pub aim_all-requires : goal.aim_all-requires
 aim_all-requires c = record {
-    beta_value = search (finite_from);
-    n_in_bounds = search rules;
-  }
+  beta_value = search (finite_from);
+  n_in_bounds = search rules;
+}
 
 pub returns-then-is_finite : goal.returns-then-is_finite
 returns-then-is_finite c = search (aim_either_all)

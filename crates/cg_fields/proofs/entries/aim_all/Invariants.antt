@@ -1,11 +1,9 @@
 -- `cg_fields::entries::aim_all` meets its contract: after c turns the room is c stores on. Assumes nothing.
 use Prim.Native.Nat.{◌≤◌, ◌-◌}
 use mathlib.Core.Path.{◌≡◌}
-use native.Mathlib.Omega.{arith}
 use lib.ListN.{length}
-use Rattle.laws.proofs.Loops.{Up, ups}
+use Rattle.laws.proofs.Loops.{Up}
 use Rattle.cg_fields.specs.Entries.{aim_new, fill_at}
-use Rattle.cg_fields.proofs.Aims.{aim_more, aim_quiet}
 use Rattle.cg_fields.proofs.entries.aim_all.Given as goal
 
 abbrev pub invariant-loop-c : goal.invariant-loop-c

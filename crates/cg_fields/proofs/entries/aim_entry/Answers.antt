@@ -1,5 +1,4 @@
 -- `cg_fields::entries::aim_entry` meets its contract: what is stored is what `direction_of` ensures. Assumes nothing.
-use borrow.Author.Rules.{rules}
 use Rattle.cg_fields.proofs.Aims.{aim_entry_is}
 use Rattle.cg_fields.proofs.entries.aim_entry.Goals as goal
 

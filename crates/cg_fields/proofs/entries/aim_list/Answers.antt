@@ -1,10 +1,6 @@
 -- `cg_fields::entries::aim_list` meets its contract: after k turns the room is k stores on. Assumes nothing.
-use Prim.Native.Nat.{◌≤◌, ◌-◌, ◌*◌}
-use mathlib.Core.Path.{◌≡◌}
 use native.Mathlib.Omega.{arith}
-use lib.ListN.{length}
-use Rattle.cg_fields.specs.Entries.{aim_new}
-use Rattle.cg_fields.proofs.Aims.{Listed, listing, listed_end}
+use Rattle.cg_fields.proofs.Aims.{listing, listed_end}
 use Rattle.cg_fields.proofs.entries.aim_list.Goals as goal
 
 pub loop-k-init : goal.loop-k-init

@@ -1,10 +1,9 @@
 -- `cg_fields::entries::aim_list` meets its contract: after k turns the room is k stores on. Assumes nothing.
 use Prim.Native.Nat.{◌≤◌, ◌-◌, ◌*◌}
 use mathlib.Core.Path.{◌≡◌}
-use native.Mathlib.Omega.{arith}
 use lib.ListN.{length}
 use Rattle.cg_fields.specs.Entries.{aim_new}
-use Rattle.cg_fields.proofs.Aims.{Listed, listing, listed_end}
+use Rattle.cg_fields.proofs.Aims.{Listed}
 use Rattle.cg_fields.proofs.entries.aim_list.Given as goal
 
 abbrev pub invariant-loop-k : goal.invariant-loop-k

@@ -8,14 +8,14 @@ use Rattle.cg_fields.proofs.entries.apply_entry.Goals as goal
 
 pub applied_entry-a-requires : goal.applied_entry-a-requires
 applied_entry-a-requires c = record {
-    reads = search rules;
-    n_bound = search rules;
-    zero_value = search rules;
-  }
+  reads = search rules;
+  n_bound = search rules;
+  zero_value = search rules;
+}
 
 pub returns : goal.returns
 returns c =
     let a = c.args in record {
-    zero_after = zero_kept a.room.now _ a.zero _ (omega arith) c.requires.zero_value;
-    room_after = λ g ls h. apply_entry_is g ls a.n a.nx a.plane a.e h a.room.now (c.applied_entry-a.ensures g ls h);
-  }
+      zero_after = zero_kept a.room.now _ a.zero _ (omega arith) c.requires.zero_value;
+      room_after = λ g ls h. apply_entry_is g ls a.n a.nx a.plane a.e h a.room.now (c.applied_entry-a.ensures g ls h);
+    }

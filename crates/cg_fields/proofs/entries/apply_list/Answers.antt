@@ -1,13 +1,6 @@
 -- `cg_fields::entries::apply_list` meets its contract: after k turns the room is k stores on. Assumes nothing.
-use Prim.Native.Nat.{◌≤◌, ◌-◌, ◌*◌}
-use mathlib.Core.Path.{◌≡◌}
 use native.Mathlib.Omega.{arith}
-use lib.ListN.{length}
-use Rattle.laws.specs.Binary64.{+0}
-use Rattle.method.specs.Transfers.{value}
-use Rattle.smooth.specs.Entries.{Entry}
-use Rattle.smooth.proofs.StencilLaws.{Wrote, writing, wrote_end}
-use Rattle.cg_fields.specs.Entries.{applied_new}
+use Rattle.smooth.proofs.StencilLaws.{writing, wrote_end}
 use Rattle.cg_fields.proofs.entries.apply_list.Goals as goal
 
 pub loop-k-init : goal.loop-k-init
@@ -21,10 +14,10 @@ bounds-list-k c = search writing
 
 pub apply_entry-requires : goal.apply_entry-requires
 apply_entry-requires c = record {
-    reads = search writing;
-    n_bound = search writing;
-    zero_value = search writing;
-  }
+  reads = search writing;
+  n_bound = search writing;
+  zero_value = search writing;
+}
 
 pub overflow_add-k : goal.overflow_add-k
 overflow_add-k c = search writing
@@ -40,6 +33,6 @@ shape_of-room c = search writing
 
 pub returns : goal.returns
 returns c = record {
-    zero_after = search writing;
-    room_after = λ g ls e. wrote_end c.loop-k.invariant.3 (omega arith) (omega arith) g ls e.at;
-  }
+  zero_after = search writing;
+  room_after = λ g ls e. wrote_end c.loop-k.invariant.3 (omega arith) (omega arith) g ls e.at;
+}

@@ -1,12 +1,11 @@
 -- `cg_fields::entries::apply_list` meets its contract: after k turns the room is k stores on. Assumes nothing.
 use Prim.Native.Nat.{◌≤◌, ◌-◌, ◌*◌}
 use mathlib.Core.Path.{◌≡◌}
-use native.Mathlib.Omega.{arith}
 use lib.ListN.{length}
 use Rattle.laws.specs.Binary64.{+0}
 use Rattle.method.specs.Transfers.{value}
 use Rattle.smooth.specs.Entries.{Entry}
-use Rattle.smooth.proofs.StencilLaws.{Wrote, writing, wrote_end}
+use Rattle.smooth.proofs.StencilLaws.{Wrote}
 use Rattle.cg_fields.specs.Entries.{applied_new}
 use Rattle.cg_fields.proofs.entries.apply_list.Given as goal
 

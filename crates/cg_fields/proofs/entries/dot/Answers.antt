@@ -1,9 +1,6 @@
 -- `cg_fields::entries::dot` meets its contract: each turn adds a product, tested or not. Assumes nothing.
-use Prim.Native.Nat.{◌≤◌, ◌-◌}
 use native.Mathlib.Omega.{arith}
-use Rattle.laws.specs.Binary64.{+0}
-use Rattle.laws.proofs.Loops.{Up, ups}
-use Rattle.cg_fields.specs.Entries.{dot_all}
+use Rattle.laws.proofs.Loops.{ups}
 use Rattle.cg_fields.proofs.Calm.{dot_more, dot_quiet}
 use Rattle.cg_fields.proofs.entries.dot.Goals as goal
 

@@ -1,10 +1,8 @@
 -- `cg_fields::entries::dot` meets its contract: each turn adds a product, tested or not. Assumes nothing.
 use Prim.Native.Nat.{◌≤◌, ◌-◌}
-use native.Mathlib.Omega.{arith}
 use Rattle.laws.specs.Binary64.{+0}
-use Rattle.laws.proofs.Loops.{Up, ups}
+use Rattle.laws.proofs.Loops.{Up}
 use Rattle.cg_fields.specs.Entries.{dot_all}
-use Rattle.cg_fields.proofs.Calm.{dot_more, dot_quiet}
 use Rattle.cg_fields.proofs.entries.dot.Given as goal
 
 abbrev pub invariant-loop-c : goal.invariant-loop-c

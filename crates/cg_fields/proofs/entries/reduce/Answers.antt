@@ -1,10 +1,6 @@
 -- `cg_fields::entries::reduce` meets its contract: after c turns the room is c stores on. Assumes nothing.
-use Prim.Native.Nat.{◌≤◌, ◌-◌, ◌*◌}
-use mathlib.Core.Path.{◌≡◌}
 use native.Mathlib.Omega.{arith}
-use lib.ListN.{length}
-use Rattle.laws.proofs.Loops.{Up, ups}
-use Rattle.cg_fields.specs.Entries.{reduce_new, fill_at}
+use Rattle.laws.proofs.Loops.{ups}
 use Rattle.cg_fields.proofs.Calm.{reduce_more, reduce_quiet}
 use Rattle.cg_fields.proofs.entries.reduce.Goals as goal
 

@@ -1,9 +1,5 @@
 -- `cg_fields::entries::take_t` meets its contract: after c turns the room is c stores on. Assumes nothing.
-use Prim.Native.Nat.{◌≤◌, ◌-◌}
-use mathlib.Core.Path.{◌≡◌}
-use lib.ListN.{length}
-use Rattle.laws.proofs.Loops.{Up}
-use Rattle.cg_fields.proofs.Aims.{take_turn, taking}
+use Rattle.cg_fields.proofs.Aims.{taking}
 use Rattle.cg_fields.proofs.entries.take_t.Goals as goal
 
 pub overflow_mul-from : goal.overflow_mul-from

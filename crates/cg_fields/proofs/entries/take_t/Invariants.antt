@@ -3,7 +3,7 @@ use Prim.Native.Nat.{◌≤◌, ◌-◌}
 use mathlib.Core.Path.{◌≡◌}
 use lib.ListN.{length}
 use Rattle.laws.proofs.Loops.{Up}
-use Rattle.cg_fields.proofs.Aims.{take_turn, taking}
+use Rattle.cg_fields.proofs.Aims.{take_turn}
 use Rattle.cg_fields.proofs.entries.take_t.Given as goal
 
 abbrev pub invariant-loop-c : goal.invariant-loop-c

@@ -1,7 +1,6 @@
 -- `checks::cast::bad_label` meets its contract: no label before c is bad. Assumes nothing.
 use Prim.Native.Nat.{◌≤◌, ◌-◌}
 use Rattle.checks.specs.Faults.{bad_label_at}
-use Rattle.checks.proofs.CheckLaws.{searched}
 use Rattle.theory.proofs.Firsts.{None}
 use Rattle.checks.proofs.cast.bad_label.Given as goal
 

@@ -1,7 +1,6 @@
 -- `checks::cast::bad_value` meets its contract: no value before c is bad. Assumes nothing.
 use Prim.Native.Nat.{◌≤◌, ◌-◌}
 use Rattle.checks.specs.Faults.{bad_value_at}
-use Rattle.checks.proofs.CheckLaws.{searched}
 use Rattle.theory.proofs.Firsts.{None}
 use Rattle.checks.proofs.cast.bad_value.Given as goal
 

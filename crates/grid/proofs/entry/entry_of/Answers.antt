@@ -1,6 +1,5 @@
 -- `grid::entry::entry_of` meets its contract, face by face. Assumes nothing.
 use native.Mathlib.Omega.{arith}
-use borrow.Author.Rules.{rules}
 use Rattle.grid.proofs.Steps.{cells_most}
 use Rattle.grid.proofs.EntryParts.{entry_is}
 use Rattle.grid.proofs.entry.entry_of.Goals as goal

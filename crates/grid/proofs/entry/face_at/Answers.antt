@@ -10,18 +10,18 @@ overflow_add-result c = search faces
 
 pub returns-then-l-eq0 : goal.returns-then-l-eq0
 returns-then-l-eq0 c = record {
-    value = search faces;
-    upper_bound = search faces;
-  }
+  value = search faces;
+  upper_bound = search faces;
+}
 
 pub returns-then-l-eq1 : goal.returns-then-l-eq1
 returns-then-l-eq1 c = record {
-    value = search faces;
-    upper_bound = search faces;
-  }
+  value = search faces;
+  upper_bound = search faces;
+}
 
 pub returns : goal.returns
 returns c = record {
-    value = search faces;
-    upper_bound = search faces;
-  }
+  value = search faces;
+  upper_bound = search faces;
+}

@@ -1,4 +1,3 @@
-use borrow.Author.Rules.{rules}
 use Rattle.grid.proofs.Counts.{counts}
 use Rattle.grid.proofs.interior.count_at.Goals as goal
 

@@ -1,6 +1,4 @@
-use Prim.Native.Nat.{◌≤◌, ◌-◌}
-use Rattle.laws.proofs.Loops.{Up}
-use Rattle.grid.proofs.Counts.{counting, counts}
+use Rattle.grid.proofs.Counts.{counts}
 use Rattle.grid.proofs.interior.interior.Goals as goal
 
 pub cell_count-n-requires : goal.cell_count-n-requires

@@ -1,6 +1,6 @@
 use Prim.Native.Nat.{◌≤◌, ◌-◌}
 use Rattle.laws.proofs.Loops.{Up}
-use Rattle.grid.proofs.Counts.{counting, counts}
+use Rattle.grid.proofs.Counts.{counting}
 use Rattle.grid.proofs.interior.interior.Given as goal
 
 abbrev pub invariant-loop-c : goal.invariant-loop-c

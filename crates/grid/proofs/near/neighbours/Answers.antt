@@ -1,5 +1,4 @@
 -- `grid::near::neighbours` meets its contract, by the contracts of the steps. Assumes nothing.
-use borrow.Author.Rules.{rules}
 use Rattle.grid.proofs.Steps.{steps}
 use Rattle.grid.proofs.near.neighbours.Goals as goal
 

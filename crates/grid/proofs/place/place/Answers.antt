@@ -1,6 +1,5 @@
 -- `place::place` meets its contract, by its tests. Assumes nothing.
 use native.Mathlib.Omega.{arith}
-use borrow.Author.Rules.{rules}
 use Rattle.laws.proofs.Loops.{branches}
 use Rattle.grid.specs.Place.{place_at}
 use Rattle.grid.proofs.Laws.{place_inside}

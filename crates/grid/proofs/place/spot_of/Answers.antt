@@ -1,4 +1,3 @@
-use borrow.Author.Rules.{rules}
 use Rattle.grid.proofs.Laws.{spotted}
 use Rattle.grid.proofs.place.spot_of.Goals as goal
 

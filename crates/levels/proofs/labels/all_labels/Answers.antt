@@ -1,7 +1,4 @@
 -- `levels::labels::all_labels` meets its contract: the labels of the levels 0 to k stand in the room. Assumes nothing.
-use Prim.Native.Nat.{◌+◌, ◌≤◌, ◌-◌}
-use Rattle.laws.proofs.Loops.{Up}
-use Rattle.levels.specs.AllLabels.{next_step}
 use Rattle.levels.proofs.Labelled.{nexts}
 use Rattle.levels.proofs.labels.all_labels.Goals as goal
 

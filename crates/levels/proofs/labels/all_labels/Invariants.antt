@@ -2,7 +2,6 @@
 use Prim.Native.Nat.{◌+◌, ◌≤◌, ◌-◌}
 use Rattle.laws.proofs.Loops.{Up}
 use Rattle.levels.specs.AllLabels.{next_step}
-use Rattle.levels.proofs.Labelled.{nexts}
 use Rattle.levels.proofs.labels.all_labels.Given as goal
 
 abbrev pub invariant-loop-k : goal.invariant-loop-k

@@ -1,7 +1,4 @@
 -- `levels::labels::coarse_label` meets its contract: the label of the children so far. Assumes nothing.
-use Prim.Native.Nat.{◌≤◌, ◌-◌}
-use Rattle.laws.proofs.Loops.{Up}
-use Rattle.levels.specs.Kin.{rank_step}
 use Rattle.levels.proofs.Kin.{ranks}
 use Rattle.levels.proofs.labels.coarse_label.Goals as goal
 

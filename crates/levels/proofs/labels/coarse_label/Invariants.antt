@@ -2,7 +2,6 @@
 use Prim.Native.Nat.{◌≤◌, ◌-◌}
 use Rattle.laws.proofs.Loops.{Up}
 use Rattle.levels.specs.Kin.{rank_step}
-use Rattle.levels.proofs.Kin.{ranks}
 use Rattle.levels.proofs.labels.coarse_label.Given as goal
 
 abbrev pub invariant-loop-t : goal.invariant-loop-t

@@ -1,7 +1,4 @@
 -- `levels::labels::coarsen` meets its contract: the coarse cells below c are labelled. Assumes nothing.
-use Prim.Native.Nat.{◌≤◌, ◌-◌}
-use Rattle.laws.proofs.Loops.{Up}
-use Rattle.levels.specs.AllLabels.{coarsen_step}
 use Rattle.levels.proofs.Labelled.{coarsens}
 use Rattle.levels.proofs.labels.coarsen.Goals as goal
 

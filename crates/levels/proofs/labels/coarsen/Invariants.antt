@@ -2,7 +2,6 @@
 use Prim.Native.Nat.{◌≤◌, ◌-◌}
 use Rattle.laws.proofs.Loops.{Up}
 use Rattle.levels.specs.AllLabels.{coarsen_step}
-use Rattle.levels.proofs.Labelled.{coarsens}
 use Rattle.levels.proofs.labels.coarsen.Given as goal
 
 abbrev pub invariant-loop-c : goal.invariant-loop-c

@@ -1,7 +1,5 @@
 -- `levels::labels::copy` meets its contract: the first i labels are copied. Assumes nothing.
-use Prim.Native.Nat.{◌≤◌, ◌-◌}
-use lib.ListN.{length}
-use Rattle.levels.proofs.Labelled.{Copied, copies}
+use Rattle.levels.proofs.Labelled.{copies}
 use Rattle.levels.proofs.labels.copy.Goals as goal
 
 pub loop-i-init : goal.loop-i-init

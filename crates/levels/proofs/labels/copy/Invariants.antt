@@ -1,7 +1,7 @@
 -- `levels::labels::copy` meets its contract: the first i labels are copied. Assumes nothing.
 use Prim.Native.Nat.{◌≤◌, ◌-◌}
 use lib.ListN.{length}
-use Rattle.levels.proofs.Labelled.{Copied, copies}
+use Rattle.levels.proofs.Labelled.{Copied}
 use Rattle.levels.proofs.labels.copy.Given as goal
 
 abbrev pub invariant-loop-i : goal.invariant-loop-i

@@ -1,8 +1,4 @@
 -- `levels::sides::levels_of` meets its contract: after k turns k levels are written down. Assumes nothing.
-use Prim.Native.Nat.{◌≤◌, ◌*◌, ◌-◌}
-use Rattle.laws.proofs.Loops.{Up}
-use Rattle.theory.specs.Sides.{Fit}
-use Rattle.levels.specs.Levels.{fill_step}
 use Rattle.levels.proofs.Starts.{fills}
 use Rattle.levels.proofs.sides.levels_of.Goals as goal
 

@@ -3,7 +3,6 @@ use Prim.Native.Nat.{◌≤◌, ◌*◌, ◌-◌}
 use Rattle.laws.proofs.Loops.{Up}
 use Rattle.theory.specs.Sides.{Fit}
 use Rattle.levels.specs.Levels.{fill_step}
-use Rattle.levels.proofs.Starts.{fills}
 use Rattle.levels.proofs.sides.levels_of.Given as goal
 
 abbrev pub invariant-loop-k : goal.invariant-loop-k

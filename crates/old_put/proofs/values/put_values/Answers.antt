@@ -1,7 +1,4 @@
 -- `old_put::values::put_values` meets its contract: i values are put. Assumes nothing.
-use Prim.Native.Nat.{◌≤◌, ◌-◌}
-use lib.ListN.{length}
-use Rattle.old_put.proofs.PartLaws.{Valued}
 use Rattle.old_put.proofs.PartLaws.{valuing}
 use Rattle.old_put.proofs.values.put_values.Goals as goal
 

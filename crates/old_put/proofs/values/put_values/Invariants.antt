@@ -2,7 +2,6 @@
 use Prim.Native.Nat.{◌≤◌, ◌-◌}
 use lib.ListN.{length}
 use Rattle.old_put.proofs.PartLaws.{Valued}
-use Rattle.old_put.proofs.PartLaws.{valuing}
 use Rattle.old_put.proofs.values.put_values.Given as goal
 
 abbrev pub invariant-loop-i : goal.invariant-loop-i

@@ -1,5 +1,4 @@
 -- `old_read::judge::judge_sizes` meets its contract: each return by the tests that led there. Assumes nothing.
-use borrow.Author.Tests.{not-false}
 use Rattle.old_read.proofs.JudgeLaws.{sizes, sizes_2}
 use Rattle.old_read.proofs.judge.judge_sizes.Goals as goal
 

@@ -1,7 +1,4 @@
 -- `old_read::values::bad_value` meets its contract: no value before c is bad. Assumes nothing.
-use Prim.Native.Nat.{◌≤◌, ◌-◌}
-use Rattle.theory.proofs.Firsts.{None}
-use Rattle.old_read.specs.OldBody.{bad_old_value}
 use Rattle.old_read.proofs.ValueLaws.{searching}
 use Rattle.old_read.proofs.values.bad_value.Goals as goal
 

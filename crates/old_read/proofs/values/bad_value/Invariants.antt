@@ -2,7 +2,6 @@
 use Prim.Native.Nat.{◌≤◌, ◌-◌}
 use Rattle.theory.proofs.Firsts.{None}
 use Rattle.old_read.specs.OldBody.{bad_old_value}
-use Rattle.old_read.proofs.ValueLaws.{searching}
 use Rattle.old_read.proofs.values.bad_value.Given as goal
 
 abbrev pub invariant-loop-c : goal.invariant-loop-c

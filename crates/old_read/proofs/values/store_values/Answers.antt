@@ -1,9 +1,4 @@
 -- `old_read::values::store_values` meets its contract: the first c values are stored. Assumes nothing.
-use Prim.Native.Nat.{◌≤◌, ◌-◌}
-use mathlib.Core.Path.{◌≡◌}
-use lib.ListN.{length}
-use Rattle.session_values.proofs.WordLaws.{Stored}
-use Rattle.old_read.specs.OldBody.{old_value_in}
 use Rattle.old_read.proofs.ValueLaws.{storing}
 use Rattle.old_read.proofs.values.store_values.Goals as goal
 

@@ -4,7 +4,6 @@ use mathlib.Core.Path.{◌≡◌}
 use lib.ListN.{length}
 use Rattle.session_values.proofs.WordLaws.{Stored}
 use Rattle.old_read.specs.OldBody.{old_value_in}
-use Rattle.old_read.proofs.ValueLaws.{storing}
 use Rattle.old_read.proofs.values.store_values.Given as goal
 
 abbrev pub invariant-loop-c : goal.invariant-loop-c

@@ -1,5 +1,4 @@
 -- `old_write::judge::judge_old_cast` meets its contract: 1 and 3 before the others. Assumes nothing.
-use borrow.Author.Tests.{not-false}
 use Rattle.old_write.proofs.WriteLaws.{casts, ready_fit, ready_unit}
 use Rattle.old_write.proofs.judge.judge_old_cast.Goals as goal
 

@@ -1,5 +1,4 @@
 -- `old_write::judge::judge_slices` meets its contract: 2 before 4, 5 and 13. Assumes nothing.
-use borrow.Author.Tests.{not-false}
 use Rattle.old_write.proofs.WriteLaws.{slices, slices_cells}
 use Rattle.old_write.proofs.judge.judge_slices.Goals as goal
 

@@ -1,7 +1,4 @@
 -- `old_write::units::first_inexpressible` meets its contract: no value before c fails. Assumes nothing.
-use Prim.Native.Nat.{◌≤◌, ◌-◌}
-use Rattle.theory.proofs.Firsts.{None}
-use Rattle.old_write.specs.OldWrites.{inexpressible}
 use Rattle.old_write.proofs.WriteLaws.{searching}
 use Rattle.old_write.proofs.units.first_inexpressible.Goals as goal
 

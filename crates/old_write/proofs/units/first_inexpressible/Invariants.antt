@@ -2,7 +2,6 @@
 use Prim.Native.Nat.{◌≤◌, ◌-◌}
 use Rattle.theory.proofs.Firsts.{None}
 use Rattle.old_write.specs.OldWrites.{inexpressible}
-use Rattle.old_write.proofs.WriteLaws.{searching}
 use Rattle.old_write.proofs.units.first_inexpressible.Given as goal
 
 abbrev pub invariant-loop-c : goal.invariant-loop-c

@@ -1,5 +1,4 @@
 use Rattle.rounds.proofs.Steps.{usable_finite, usable_none}
-use borrow.Author.Rules.{rules}
 use Rattle.rounds.proofs.scalars.is_usable.Goals as goal
 
 pub returns-then-is_finite : goal.returns-then-is_finite

@@ -1,6 +1,5 @@
 -- `rounds::scalars::precondition` meets its contract: the cycle's promise on the room from z on. Assumes nothing.
 use Rattle.rounds.proofs.Turns.{turns}
-use borrow.Author.Rules.{rules}
 use Rattle.rounds.proofs.scalars.precondition.Goals as goal
 
 pub cycle-requires : goal.cycle-requires

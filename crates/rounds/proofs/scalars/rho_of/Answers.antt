@@ -1,6 +1,5 @@
 use Rattle.rounds.proofs.Turns.{turns}
 use Rattle.rounds.proofs.Calm.{calm}
-use borrow.Author.Rules.{rules}
 use Rattle.rounds.proofs.scalars.rho_of.Goals as goal
 
 pub inner-requires : goal.inner-requires

@@ -1,7 +1,6 @@
 use mathlib.Core.Path.{◌∙◌}
 use Rattle.rounds.proofs.Turns.{turns, same_planned, scaled_is}
 use Rattle.rounds.proofs.Calm.{calm, sigma_p}
-use borrow.Author.Rules.{rules}
 use Rattle.rounds.proofs.scalars.scalars_of.Goals as goal
 
 pub aim-requires : goal.aim-requires

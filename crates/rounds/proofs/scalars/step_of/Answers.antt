@@ -1,5 +1,4 @@
 use Rattle.rounds.proofs.Steps.{steps}
-use borrow.Author.Rules.{rules}
 use Rattle.rounds.proofs.scalars.step_of.Goals as goal
 
 pub returns-then-is_finite : goal.returns-then-is_finite

@@ -1,7 +1,5 @@
 -- `session_header::line::digit_count` meets its contract: n digits are passed. Assumes nothing.
-use Prim.Native.Nat.{◌≤◌, ◌-◌}
-use lib.ListN.{length}
-use Rattle.session_header.proofs.LineLaws.{runs, Counted}
+use Rattle.session_header.proofs.LineLaws.{runs}
 use Rattle.session_header.proofs.line.digit_count.Goals as goal
 
 pub loop-n-init : goal.loop-n-init

@@ -1,7 +1,5 @@
 -- `session_header::line::starts` meets its contract: the key's first i bytes stand there. Assumes nothing.
-use Prim.Native.Nat.{◌≤◌, ◌-◌}
-use lib.ListN.{length}
-use Rattle.session_header.proofs.LineLaws.{Ahead, keys}
+use Rattle.session_header.proofs.LineLaws.{keys}
 use Rattle.session_header.proofs.line.starts.Goals as goal
 
 pub loop-i-init : goal.loop-i-init

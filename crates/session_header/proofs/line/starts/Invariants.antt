@@ -1,7 +1,7 @@
 -- `session_header::line::starts` meets its contract: the key's first i bytes stand there. Assumes nothing.
 use Prim.Native.Nat.{◌≤◌, ◌-◌}
 use lib.ListN.{length}
-use Rattle.session_header.proofs.LineLaws.{Ahead, keys}
+use Rattle.session_header.proofs.LineLaws.{Ahead}
 use Rattle.session_header.proofs.line.starts.Given as goal
 
 abbrev pub invariant-loop-i : goal.invariant-loop-i

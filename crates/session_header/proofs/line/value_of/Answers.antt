@@ -1,6 +1,5 @@
 -- `session_header::line::value_of` meets its contract: i digits are read, and make v. Assumes nothing.
-use Prim.Native.Nat.{◌≤◌, ◌-◌}
-use Rattle.session_header.proofs.LineLaws.{numbers, Valued}
+use Rattle.session_header.proofs.LineLaws.{numbers}
 use Rattle.session_header.proofs.line.value_of.Goals as goal
 
 pub loop-i-init : goal.loop-i-init

@@ -1,5 +1,4 @@
 -- `session_header::line::with_digit` meets its contract. Assumes nothing.
-use borrow.Author.Rules.{rules}
 use Rattle.session_header.proofs.LineLaws.{digit_range}
 use Rattle.session_header.proofs.line.with_digit.Goals as goal
 

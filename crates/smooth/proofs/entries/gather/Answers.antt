@@ -1,6 +1,5 @@
 -- `smooth::entries::gather` meets its contract: each of the six is read at a place that is picked. Assumes nothing.
 use native.Mathlib.Omega.{arith}
-use borrow.Author.Rules.{rules}
 use Rattle.smooth.proofs.EntryLaws.{sum_is}
 use Rattle.smooth.proofs.entries.gather.Goals as goal
 

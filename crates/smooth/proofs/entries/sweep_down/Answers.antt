@@ -1,12 +1,7 @@
 -- `smooth::entries::sweep_down` meets its contract: with k turns left, what they make of the room is what all make of
 -- the first. Assumes nothing.
-use Prim.Native.Nat.{◌≤◌}
-use mathlib.Core.Path.{◌≡◌}
 use native.Mathlib.Omega.{arith}
-use lib.ListN.{length}
-use Rattle.laws.specs.Binary64.{+0}
-use Rattle.method.specs.Transfers.{value}
-use Rattle.smooth.proofs.EntryLaws.{Falling, falling, falling_end}
+use Rattle.smooth.proofs.EntryLaws.{falling, falling_end}
 use Rattle.smooth.proofs.entries.sweep_down.Goals as goal
 
 pub loop-k-init : goal.loop-k-init

@@ -2,11 +2,10 @@
 -- the first. Assumes nothing.
 use Prim.Native.Nat.{◌≤◌}
 use mathlib.Core.Path.{◌≡◌}
-use native.Mathlib.Omega.{arith}
 use lib.ListN.{length}
 use Rattle.laws.specs.Binary64.{+0}
 use Rattle.method.specs.Transfers.{value}
-use Rattle.smooth.proofs.EntryLaws.{Falling, falling, falling_end}
+use Rattle.smooth.proofs.EntryLaws.{Falling}
 use Rattle.smooth.proofs.entries.sweep_down.Given as goal
 
 abbrev pub invariant-loop-k : goal.invariant-loop-k

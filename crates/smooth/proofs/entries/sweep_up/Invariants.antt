@@ -1,11 +1,10 @@
 -- `smooth::entries::sweep_up` meets its contract: after k turns the room is k turns on. Assumes nothing.
 use Prim.Native.Nat.{◌≤◌, ◌-◌}
 use mathlib.Core.Path.{◌≡◌}
-use native.Mathlib.Omega.{arith}
 use lib.ListN.{length}
 use Rattle.laws.specs.Binary64.{+0}
 use Rattle.method.specs.Transfers.{value}
-use Rattle.smooth.proofs.EntryLaws.{Rising, rising, rising_end}
+use Rattle.smooth.proofs.EntryLaws.{Rising}
 use Rattle.smooth.proofs.entries.sweep_up.Given as goal
 
 abbrev pub invariant-loop-k : goal.invariant-loop-k

@@ -1,6 +1,5 @@
 -- `smooth::stencils::first_entry` meets its contract, by what its callee ensures of every cast. Assumes nothing.
 use native.Mathlib.Omega.{arith}
-use borrow.Author.Rules.{rules}
 use Prim.Native.Nat.{◌*◌}
 use Rattle.smooth.proofs.StencilLaws.{first_entry_is}
 use Rattle.smooth.proofs.stencils.first_entry.Goals as goal

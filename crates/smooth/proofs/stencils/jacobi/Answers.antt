@@ -1,5 +1,4 @@
 -- `smooth::stencils::jacobi` meets its contract, by the contracts of the two that it calls. Assumes nothing.
-use native.Mathlib.Omega.{arith}
 use borrow.Author.Rules.{rules}
 use Rattle.smooth.proofs.StencilLaws.{kept_zero, jacobi_entries_is}
 use Rattle.smooth.proofs.stencils.jacobi.Goals as goal

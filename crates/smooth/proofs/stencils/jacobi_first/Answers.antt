@@ -1,12 +1,8 @@
 -- `smooth::stencils::jacobi_first` meets its contract: after k turns the room is k stores on. Assumes nothing.
-use Prim.Native.Nat.{◌≤◌, ◌-◌, ◌*◌}
-use mathlib.Core.Path.{◌≡◌, ◌∙◌}
+use mathlib.Core.Path.{◌∙◌}
 use native.Mathlib.Omega.{arith}
-use lib.ListN.{length}
 use Rattle.grid.specs.Entries.{cells_of}
-use Rattle.smooth.specs.Entries.{Entry}
-use Rattle.smooth.specs.Stencils.{first_new}
-use Rattle.smooth.proofs.StencilLaws.{Wrote, writing, wrote_end, first_covered}
+use Rattle.smooth.proofs.StencilLaws.{writing, wrote_end, first_covered}
 use Rattle.smooth.proofs.stencils.jacobi_first.Goals as goal
 
 pub loop-k-init : goal.loop-k-init

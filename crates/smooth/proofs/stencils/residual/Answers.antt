@@ -1,5 +1,4 @@
 -- `smooth::stencils::residual` meets its contract, by the contracts of the two that it calls. Assumes nothing.
-use native.Mathlib.Omega.{arith}
 use borrow.Author.Rules.{rules}
 use Rattle.smooth.proofs.StencilLaws.{cleared_zero, residual_entries_is}
 use Rattle.smooth.proofs.stencils.residual.Goals as goal

@@ -1,13 +1,12 @@
 -- `smooth::stencils::residual_list` meets its contract: after k turns the room is k stores on. Assumes nothing.
 use Prim.Native.Nat.{◌≤◌, ◌-◌, ◌*◌}
 use mathlib.Core.Path.{◌≡◌}
-use native.Mathlib.Omega.{arith}
 use lib.ListN.{length}
 use Rattle.laws.specs.Binary64.{+0}
 use Rattle.method.specs.Transfers.{value}
 use Rattle.smooth.specs.Entries.{Entry}
 use Rattle.smooth.specs.Stencils.{residue_new}
-use Rattle.smooth.proofs.StencilLaws.{Wrote, writing, wrote_end}
+use Rattle.smooth.proofs.StencilLaws.{Wrote}
 use Rattle.smooth.proofs.stencils.residual_list.Given as goal
 
 abbrev pub invariant-loop-k : goal.invariant-loop-k

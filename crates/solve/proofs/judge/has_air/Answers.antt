@@ -1,8 +1,4 @@
 -- `solve::judge::has_air` meets its contract: no cell before c is air. Assumes nothing.
-use Prim.Native.Nat.{◌≤◌, ◌-◌}
-use lib.ListN.{length}
-use Rattle.method.specs.Cast.{is_air}
-use Rattle.theory.proofs.Firsts.{None}
 use Rattle.solve.proofs.Judging.{airs}
 use Rattle.solve.proofs.judge.has_air.Goals as goal
 

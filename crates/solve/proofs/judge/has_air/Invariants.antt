@@ -3,7 +3,6 @@ use Prim.Native.Nat.{◌≤◌, ◌-◌}
 use lib.ListN.{length}
 use Rattle.method.specs.Cast.{is_air}
 use Rattle.theory.proofs.Firsts.{None}
-use Rattle.solve.proofs.Judging.{airs}
 use Rattle.solve.proofs.judge.has_air.Given as goal
 
 abbrev pub invariant-loop-c : goal.invariant-loop-c

@@ -1,5 +1,4 @@
 -- `solve::judge::is_air` meets its contract. Assumes nothing.
-use borrow.Author.Rules.{rules}
 use Rattle.solve.proofs.Judging.{air_is}
 use Rattle.solve.proofs.judge.is_air.Goals as goal
 

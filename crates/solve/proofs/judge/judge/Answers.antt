@@ -1,5 +1,4 @@
 use Rattle.solve.proofs.Judging.{judging, labels_known, values_known}
-use borrow.Author.Rules.{rules}
 use Rattle.solve.proofs.judge.judge.Goals as goal
 
 pub cell_count-n-requires : goal.cell_count-n-requires

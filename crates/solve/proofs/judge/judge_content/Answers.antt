@@ -1,5 +1,4 @@
-use Rattle.solve.proofs.Judging.{contents, content_is}
-use borrow.Author.Rules.{rules}
+use Rattle.solve.proofs.Judging.{content_is}
 use Rattle.solve.proofs.judge.judge_content.Goals as goal
 
 pub returns : goal.returns

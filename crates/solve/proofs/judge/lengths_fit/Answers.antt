@@ -1,5 +1,4 @@
 use Rattle.solve.proofs.Judging.{lengths}
-use borrow.Author.Rules.{rules}
 use Rattle.solve.proofs.judge.lengths_fit.Goals as goal
 
 pub returns-then-labels-n : goal.returns-then-labels-n

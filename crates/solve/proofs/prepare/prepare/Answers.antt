@@ -1,5 +1,4 @@
 use Rattle.solve.proofs.Preparing.{preparing}
-use borrow.Author.Rules.{rules}
 use Rattle.solve.proofs.prepare.prepare.Goals as goal
 
 pub all_labels-requires : goal.all_labels-requires

@@ -1,5 +1,5 @@
 -- `text_out::decimal::digits_of` meets its contract: k digits are counted, with one of the rest. Assumes nothing.
-use Rattle.text_out.proofs.DecimalLaws.{countings, Counting}
+use Rattle.text_out.proofs.DecimalLaws.{countings}
 use Rattle.text_out.proofs.decimal.digits_of.Goals as goal
 
 pub loop-rest-init : goal.loop-rest-init

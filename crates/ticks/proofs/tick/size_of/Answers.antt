@@ -1,5 +1,4 @@
 -- `tick::size_of` meets its contract. Assumes nothing.
-use Rattle.std.proofs.Common.{rules}
 use Rattle.ticks.proofs.TickNear.{nears}
 use Rattle.ticks.proofs.tick.size_of.Goals as goal
 

@@ -1,5 +1,4 @@
 -- `tick::to_tick` meets its contract, by the sign of x. Assumes nothing.
-use Rattle.std.proofs.Common.{rules}
 use Rattle.ticks.proofs.TickLaws.{ticking, low_tick, high_tick}
 use Rattle.ticks.proofs.tick.to_tick.Goals as goal
 

@@ -1,5 +1,4 @@
 -- `tick::whole_back` meets its contract. Assumes nothing.
-use Rattle.std.proofs.Common.{rules}
 use Rattle.ticks.proofs.TickWhole.{wholes, held_none}
 use Rattle.ticks.proofs.tick.whole_back.Goals as goal
 

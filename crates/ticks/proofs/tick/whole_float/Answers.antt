@@ -1,5 +1,4 @@
 -- `tick::whole_float` meets its contract: a tick is small enough to be a float with no loss. Assumes nothing.
-use Rattle.std.proofs.Common.{rules}
 use Rattle.ticks.proofs.TickWhole.{wholes}
 use Rattle.ticks.proofs.tick.whole_float.Goals as goal
 

@@ -1,5 +1,4 @@
 -- `transfer::rows::add_cell` meets its contract: by where the cell is. Assumes nothing.
-use borrow.Author.Rules.{rules}
 use Rattle.transfer.proofs.RowLaws.{rows}
 use Rattle.transfer.proofs.rows.add_cell.Goals as goal
 

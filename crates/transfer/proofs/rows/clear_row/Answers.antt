@@ -1,9 +1,6 @@
 -- `transfer::rows::clear_row` meets its contract: after i turns the first i sums are +0. Assumes nothing.
-use Prim.Native.Nat.{◌+◌, ◌-◌, ◌≤◌}
-use mathlib.Core.Path.{◌≡◌}
-use lib.ListN.{length, set, length-set}
-use Rattle.laws.specs.Binary64.{+0}
-use Rattle.laws.proofs.Loops.{Up, ups}
+use lib.ListN.{length-set}
+use Rattle.laws.proofs.Loops.{ups}
 use Rattle.transfer.proofs.Stretch.{cleared}
 use Rattle.transfer.proofs.rows.clear_row.Goals as goal
 

@@ -1,10 +1,9 @@
 -- `transfer::rows::clear_row` meets its contract: after i turns the first i sums are +0. Assumes nothing.
 use Prim.Native.Nat.{◌+◌, ◌-◌, ◌≤◌}
 use mathlib.Core.Path.{◌≡◌}
-use lib.ListN.{length, set, length-set}
+use lib.ListN.{length, set}
 use Rattle.laws.specs.Binary64.{+0}
-use Rattle.laws.proofs.Loops.{Up, ups}
-use Rattle.transfer.proofs.Stretch.{cleared}
+use Rattle.laws.proofs.Loops.{Up}
 use Rattle.transfer.proofs.rows.clear_row.Given as goal
 
 abbrev pub invariant-loop-i : goal.invariant-loop-i
