@@ -54,7 +54,7 @@ fn main(rt: HostRuntime) -> io::Result<()> {
     let mut floats = [0.0f64; 8 * LIMIT + 64];
     let mut words = [0u32; 2 * LIMIT];
     let mut output = [0u8; 26 * LIMIT + 160];
-    let got = read_front(&mut rt.stdin(), &mut input)?;
+    let got = read_front(&mut rt.stdin(), &mut input);
     let count = answer(
         &input,
         got,

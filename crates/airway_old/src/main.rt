@@ -70,7 +70,7 @@ fn run<R: Read, W: Write>(
     requires input_len { (length input.old ≡ old_buffer) × (length values.old ≡ large_room) }
     requires roomy { Roomy large_room (length values.old) (length pressures.old) (length bytes.old) (length floats.old) (length words.old) (length output.old) }
 {
-    let got = read_front(from, input)?;
+    let got = read_front(from, input);
     let count = answer(
         settings, input, got, values, pressures, bytes, floats, words, output,
     );

@@ -63,7 +63,7 @@ fn run<R: Read, W: Write, E: Write>(
 ) -> io::Result<()>
     requires { (length input.old ≡ old_buffer) × ((length values.old ≡ large_room) × (buffer_for large_room ≤ length output.old)) }
 {
-    let got = read_front(from, input)?;
+    let got = read_front(from, input);
     let written = answer(order, settings, input, got, values, output);
     let found = written.answer;
     let count = written.count;
