@@ -42,7 +42,8 @@ fn visit(g: Sides, labels: &[u8], values: &[i32], x: &[f64], j: usize, a: Faces)
     ensures { Added labels.now (rounded_on g labels.now values.now x.now) j a result }
 {
     let label = label_at(labels, j);
-    if label < 2 {
+    let no_wall = label < 2;
+    if no_wall {
         Faces {
             d: a.d + 1,
             sum: signed_numbers::plus(a.sum, whole_at(label, values, x, j)),

@@ -15,7 +15,8 @@ pub mod entries;
 pub(crate) fn direction_of(done: u32, beta: f64, z: f64, p: f64) -> f64
     ensures { result ≡ direction done beta z p }
 {
-    if done == 0 { z } else { z + beta * p }
+    let first = done == 0;
+    if first { z } else { z + beta * p }
 }
 
 // b at one cell, into r.

@@ -38,7 +38,8 @@ fn reach_air(room: &mut [u32], labels: &[u8], j: usize, m: u32, tail: usize) -> 
     ensures { Reaches labels.now m (j ∷ []) (queue room.old tail) (queue room.new result) }
 {
     if j < labels.len() {
-        if labels[j] == 0 {
+        let air = labels[j] == 0;
+        if air {
             return reach_cell(room, labels.len(), j, m, tail);
         }
     }

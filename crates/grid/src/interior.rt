@@ -10,7 +10,8 @@ fn count_at(labels: &[u8], c: usize, k: u32) -> u32
     requires { (k ≤ c) × (c ≤ 32768) }
     ensures { result ≡ cond (judged labels.now c) (k + 1) k }
 {
-    if label_at(labels, c) == 0 { k + 1 } else { k }
+    let air = label_at(labels, c) == 0;
+    if air { k + 1 } else { k }
 }
 
 // How many of the cells are air.

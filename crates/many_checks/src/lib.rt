@@ -63,7 +63,8 @@ fn lengths_fit(n: usize, sets: u32, labels: usize, of: Lengths) -> bool
 fn sets_fit(sets: u32) -> bool
     ensures { result ≡ sets_fit sets }
 {
-    1 <= sets && sets <= 64
+    let some = 1 <= sets;
+    some && sets <= 64
 }
 
 // Check 3: each setting is in its range, and the number of sets.

@@ -16,7 +16,8 @@ fn two_at(row: &[f64], i: usize, w: f64, v: f64, a: f64) -> f64
     ensures { result ≡ two row.now w v i a }
 {
     let lower = (i + 1) / 2;
-    if i % 2 == 0 {
+    let even = i % 2 == 0;
+    if even {
         let sum = transfer::rows::add_cell(row, lower, w, a);
         transfer::rows::add_cell(row, lower + 1, v, sum)
     } else {

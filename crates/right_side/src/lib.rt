@@ -13,7 +13,8 @@ fn level_at(labels: &[u8], values: &[i32], j: usize, sum: i64) -> i64
     requires { (length values.now ≡ length labels.now) × (nat_abs sum ≤ 2 ^ 40) }
     ensures { Levelled labels.now values.now j sum result }
 {
-    if grid::near::label_at(labels, j) == 1 {
+    let opening = grid::near::label_at(labels, j) == 1;
+    if opening {
         signed_numbers::plus(sum, signed_numbers::wide(values[j]))
     } else {
         sum

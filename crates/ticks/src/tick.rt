@@ -13,7 +13,8 @@ fn tie_of(low: u64) -> u64
     requires { low ≤ 2 ^ 42 }
     ensures { result ≡ tie low }
 {
-    if low % 2 == 0 { low } else { low + 1 }
+    let even = low % 2 == 0;
+    if even { low } else { low + 1 }
 }
 
 // Whether one of two tests passes.

@@ -18,8 +18,8 @@ plus-requires c =
     let h : nat_abs c.args.a.sum + nat_abs c.whole_at.result < 2 ^ 63 = omega (arith, c.whole_at.ensures.small) in
     search pressed
 
-pub returns-then-label-lt2 : goal.returns-then-label-lt2
-returns-then-label-lt2 c = let k : c.label_at-label.result < 2 = omega arith in search pressed
+pub returns-then-no_wall : goal.returns-then-no_wall
+returns-then-no_wall c = let k : c.label_at-label.result < 2 = omega arith in search pressed
 
-pub returns-else-label-lt2 : goal.returns-else-label-lt2
-returns-else-label-lt2 c = let k : 2 ≤ c.label_at-label.result = omega arith in search pressed
+pub returns-else-no_wall : goal.returns-else-no_wall
+returns-else-no_wall c = let k : 2 ≤ c.label_at-label.result = omega arith in search pressed

@@ -8,14 +8,14 @@ bounds-labels-j c = search airs
 pub reach_cell-requires : goal.reach_cell-requires
 reach_cell-requires c = search airs
 
-pub shape_of-room-then-labels-j-eq0 : goal.shape_of-room-then-labels-j-eq0
-shape_of-room-then-labels-j-eq0 c = search airs
+pub shape_of-room-then-air : goal.shape_of-room-then-air
+shape_of-room-then-air c = search airs
 
-pub returns-then-labels-j-eq0 : goal.returns-then-labels-j-eq0
-returns-then-labels-j-eq0 c = search airs
+pub returns-then-air : goal.returns-then-air
+returns-then-air c = search airs
 
-pub returns-else-labels-j-eq0 : goal.returns-else-labels-j-eq0
-returns-else-labels-j-eq0 c = search airs
+pub returns-else-air : goal.returns-else-air
+returns-else-air c = search airs
 
 pub returns-else-j-labels : goal.returns-else-j-labels
 returns-else-j-labels c = search airs

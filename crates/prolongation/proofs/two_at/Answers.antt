@@ -2,8 +2,8 @@
 use Rattle.transfer.proofs.RowLaws.{two_even, two_odd}
 use Rattle.prolongation.proofs.two_at.Goals as goal
 
-pub returns-then-i-eq0 : goal.returns-then-i-eq0
-returns-then-i-eq0 c = search two_even
+pub returns-then-even : goal.returns-then-even
+returns-then-even c = search two_even
 
-pub returns-else-i-eq0 : goal.returns-else-i-eq0
-returns-else-i-eq0 c = search two_odd
+pub returns-else-even : goal.returns-else-even
+returns-else-even c = search two_odd

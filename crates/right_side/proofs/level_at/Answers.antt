@@ -13,17 +13,17 @@ use Rattle.signed_numbers.proofs.Laws.{abs_32}
 use Rattle.right_side.proofs.Laws.{sides, reads_level, adds_level, adds_none}
 use Rattle.right_side.proofs.level_at.Goals as goal
 
-pub label_at-requires : goal.label_at-requires
-label_at-requires c = search sides
+pub label_at-opening-requires : goal.label_at-opening-requires
+label_at-opening-requires c = search sides
 
 pub bounds-values-j : goal.bounds-values-j
 bounds-values-j c =
-    let h = reads_level c.args.labels.now c.args.j c.label_at.result c.label_at.ensures c.args.values.now c.requires.0 c.if-label_at-eq1.true in
+    let h = reads_level c.args.labels.now c.args.j c.label_at-opening.result c.label_at-opening.ensures c.args.values.now c.requires.0 c.if-opening.true in
     search rules
 
 pub offset_bounds-values-j : goal.offset_bounds-values-j
 offset_bounds-values-j c =
-    let h = reads_level c.args.labels.now c.args.j c.label_at.result c.label_at.ensures c.args.values.now c.requires.0 c.if-label_at-eq1.true in
+    let h = reads_level c.args.labels.now c.args.j c.label_at-opening.result c.label_at-opening.ensures c.args.values.now c.requires.0 c.if-opening.true in
     search rules
 
 pub plus-requires : goal.plus-requires
@@ -36,8 +36,8 @@ plus-requires c =
     let h : nat_abs c.args.sum + nat_abs c.wide.result < 2 ^ 63 = omega arith in
     search sides
 
-pub returns-then-label_at-eq1 : goal.returns-then-label_at-eq1
-returns-then-label_at-eq1 c =
+pub returns-then-opening : goal.returns-then-opening
+returns-then-opening c =
     let v : ℤ = field c.args.values.now c.args.j in
     let g : SFits w32 v = record { sfits = c.wide-arg-1.given } in
     let e : c.wide.result ≡ v = search sides in
@@ -47,8 +47,8 @@ returns-then-label_at-eq1 c =
     let q : c.plus.result ≡ c.args.sum +ᶻ v = p ∙ ap (◌+ᶻ◌ c.args.sum) e in
     let f : SFits w64 c.plus.result = record { sfits = c.plus.type_inv } in
     rw (to_z-of_z f)
-    (adds_level c.args.labels.now c.args.j c.label_at.result c.label_at.ensures c.args.values.now c.args.sum c.plus.result c.if-label_at-eq1.true b q)
+    (adds_level c.args.labels.now c.args.j c.label_at-opening.result c.label_at-opening.ensures c.args.values.now c.args.sum c.plus.result c.if-opening.true b q)
 
-pub returns-else-label_at-eq1 : goal.returns-else-label_at-eq1
-returns-else-label_at-eq1 c =
-    rw (to_z-of_z c.ranges.sum) (adds_none c.args.labels.now c.args.j c.label_at.result c.label_at.ensures c.args.values.now c.args.sum c.if-label_at-eq1.false)
+pub returns-else-opening : goal.returns-else-opening
+returns-else-opening c =
+    rw (to_z-of_z c.ranges.sum) (adds_none c.args.labels.now c.args.j c.label_at-opening.result c.label_at-opening.ensures c.args.values.now c.args.sum c.if-opening.false)

@@ -1,4 +1,4 @@
--- `session_header::line::is_digit_lem` meets its contract, test by test. Assumes nothing.
+-- `session_header::line::is_digit` meets its contract, test by test. Assumes nothing.
 use Rattle.session_header.proofs.LineLaws.{digit_both, digit_not}
 use Rattle.session_header.proofs.line.is_digit.Goals as goal
 

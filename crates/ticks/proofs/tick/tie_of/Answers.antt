@@ -3,8 +3,8 @@ use Rattle.std.proofs.Common.{rules}
 use Rattle.ticks.proofs.TickNear.{tie_even, tie_odd}
 use Rattle.ticks.proofs.tick.tie_of.Goals as goal
 
-pub returns-then-low-eq0 : goal.returns-then-low-eq0
-returns-then-low-eq0 c = search (rules, tie_even)
+pub returns-then-even : goal.returns-then-even
+returns-then-even c = search (rules, tie_even)
 
-pub returns-else-low-eq0 : goal.returns-else-low-eq0
-returns-else-low-eq0 c = search (rules, tie_odd)
+pub returns-else-even : goal.returns-else-even
+returns-else-even c = search (rules, tie_odd)
