@@ -139,7 +139,7 @@ pub fn all_sets(
     ensures { SetsOf sides labels.now values.now settings sets pressures.old answers.old pressures.new answers.new }
 {
     let mut from = 0;
-    let mut at = 0;
+    let mut at: usize = 0;
     let mut s = 0;
     while s < sets {
         take_turn(
