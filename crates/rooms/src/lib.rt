@@ -30,39 +30,13 @@ pub fn word_need(n: usize) -> usize
     2 * n
 }
 
-// The first n bytes become 0.
-pub fn clear_bytes(room: &mut [u8], n: usize)
+// The first n elements become z.
+pub fn clear_front<T: Copy>(room: &mut [T], n: usize, z: T)
     requires { n ≤ length room.old }
-    ensures { room.new ≡ cleared n 0 room.old }
+    ensures { room.new ≡ cleared n z room.old }
 {
-    let mut i = 0;
-    while i < n {
-        room[i] = 0;
-        i += 1;
-    }
-}
-
-// The first n binary64 become +0.0.
-pub fn clear_floats(room: &mut [f64], n: usize)
-    requires { n ≤ length room.old }
-    ensures { room.new ≡ cleared n +0 room.old }
-{
-    let mut i = 0;
-    while i < n {
-        room[i] = 0.0;
-        i += 1;
-    }
-}
-
-// The first n words become 0.
-pub fn clear_words(room: &mut [u32], n: usize)
-    requires { n ≤ length room.old }
-    ensures { room.new ≡ cleared n 0 room.old }
-{
-    let mut i = 0;
-    while i < n {
-        room[i] = 0;
-        i += 1;
+    for i in 0..n {
+        room[i] = z;
     }
 }
 
@@ -73,7 +47,7 @@ pub fn clear(bytes: &mut [u8], floats: &mut [f64], words: &mut [u32], n: usize)
     ensures floats_after { floats.new ≡ cleared (float_need n) +0 floats.old }
     ensures words_after { words.new ≡ cleared (word_need n) 0 words.old }
 {
-    clear_bytes(bytes, byte_need(n));
-    clear_floats(floats, float_need(n));
-    clear_words(words, word_need(n));
+    clear_front(bytes, byte_need(n), 0);
+    clear_front(floats, float_need(n), 0.0);
+    clear_front(words, word_need(n), 0);
 }
