@@ -6,6 +6,8 @@ use native.Mathlib.Omega.{arith}
 use borrow.Author.Rules.{rules}
 use lib.ListN.{length, set, drop, replicate}
 use lib.Seq.{drop_at}
+use lib.Ieee.{binary64, of_bits, of_fields}
+use Rattle.laws.specs.Binary64.{+0}
 use Rattle.laws.specs.Loops.{up}
 use Rattle.laws.specs.Lists.{tab}
 use Rattle.laws.proofs.Loops.{ups}
@@ -48,6 +50,11 @@ module _ {A : Type 0} (z : A) where
   pub cleared_home : (need : ℕ) (e part : List A) → need ≤ length e → length part ≡ need → cleared need z (part ++ drop need e) ≡ cleared need z e
   unfolding cleared
   cleared_home need e part h k = ap (λ l. replicate need z ++ l) (drop_at part (drop need e) need k)
+
+-- the literal 0.0, which is given by its bits
+pub zero_bits : of_bits binary64 0 ≡ +0
+unfolding of_bits of_fields
+zero_bits = refl
 
 pub front_within : (n i : ℕ) {A : Type 0} (e s : List A) → n ≤ length e → length s ≡ length e → i < n → i < length s
 front_within n i e s h q l = omega arith

@@ -1,5 +1,5 @@
 -- `rooms::clear` meets its contract: each room by its need. Assumes nothing.
-use Rattle.rooms.proofs.Clears.{cleared_by, needed}
+use Rattle.rooms.proofs.Clears.{cleared_by, needed, zero_bits}
 use Rattle.rooms.proofs.clear.Goals as goal
 
 pub byte_need-requires : goal.byte_need-requires
@@ -34,7 +34,7 @@ returns-clause-bytes_after c = search needed
 
 -- the zero that is passed is given by its bits
 pub returns-clause-floats_after : goal.returns-clause-floats_after
-returns-clause-floats_after c = cleared_by _ _ _ _ _ c.clear_front-2.ensures c.float_need.ensures
+returns-clause-floats_after c = rw zero_bits at (cleared_by _ _ _ _ _ c.clear_front-2.ensures c.float_need.ensures)
 
 pub returns-clause-words_after : goal.returns-clause-words_after
 returns-clause-words_after c = search needed
