@@ -4,7 +4,7 @@ use mathlib.Core.Path.{◌≡◌, refl, sym, ap, ap₂, ◌∙◌}
 use mathlib.Core.Bool.{Bool, true, false, cond}
 use mathlib.Core.List.{List, [], ◌∷◌, ◌++◌}
 use mathlib.Core.Logic.{⊎_elim}
-use mathlib.Core.Option.{Option, none, some}
+use Rattle.std.specs.Prelude.{Option, None, Some}
 use Prim.Native.Nat.{ℕ, suc, ◌+◌, ◌*◌, ◌≤◌, ◌<◌}
 use native.Mathlib.Nat.{not-suc-le-zero, le_of_suc-le-suc}
 use native.Mathlib.Omega.{arith}
@@ -30,8 +30,8 @@ use Rattle.prints.proofs.Rules.{bare, printed_refused, fault_too_many, fault_non
 
 -- what is read, where more bytes follow
 abbrev on : List ℕ → Option (List ℕ) → Option (List ℕ)
-on tail none = none
-on tail (some cs) = some (cs ++ tail)
+on tail None = None
+on tail (Some cs) = Some (cs ++ tail)
 
 abbrev pub line_on : List ℕ → Line → Line
 line_on tail bad = bad
@@ -48,11 +48,11 @@ after_on (k ∷ ks) [] tail h = absurd (not-suc-le-zero h)
 after_on (k ∷ ks) (b ∷ bs) tail h = go (eqb b k) (after_on ks bs tail (le_of_suc-le-suc h))
   where
     go : (t : Bool) → after ks (bs ++ tail) ≡ on tail (after ks bs)
-        → ◌≡◌ {A = Option (List ℕ)} (elim t [ true ↦ after ks (bs ++ tail) | false ↦ none ]) (on tail (elim t [ true ↦ after ks bs | false ↦ none ]))
+        → ◌≡◌ {A = Option (List ℕ)} (elim t [ true ↦ after ks (bs ++ tail) | false ↦ None ]) (on tail (elim t [ true ↦ after ks bs | false ↦ None ]))
     go true e = e
     go false e = refl
 
-after_length : (ks bs cs : List ℕ) → after ks bs ≡ some cs → length bs ≡ length ks + length cs
+after_length : (ks bs cs : List ℕ) → after ks bs ≡ Some cs → length bs ≡ length ks + length cs
 after_length ks bs cs e = ap length (after_is ks bs cs e) ∙ length-append ks cs
 
 -- ---- a run of digits that ends before the bytes do is the same; one that does not is no shorter
@@ -84,23 +84,23 @@ long_number ds h = let j : 1 ≤ length ds = omega arith in rw (lt-leb (length d
 held : ℕ → List ℕ → Line
 held x cs = closed (digits cs) (after (x ∷ []) (drop (length (digits cs)) cs))
 
-number_none : (x : ℕ) (key bs : List ℕ) → after key bs ≡ none → number_to (x ∷ []) key bs ≡ bad
+number_none : (x : ℕ) (key bs : List ℕ) → after key bs ≡ None → number_to (x ∷ []) key bs ≡ bad
 unfolding number_to
 number_none x key bs e = rw (number_to, e)
 
-number_some : (x : ℕ) (key bs cs : List ℕ) → after key bs ≡ some cs → number_to (x ∷ []) key bs ≡ held x cs
+number_some : (x : ℕ) (key bs cs : List ℕ) → after key bs ≡ Some cs → number_to (x ∷ []) key bs ≡ held x cs
 unfolding number_to held
 number_some x key bs cs e = rw (number_to, e)
 
 closed_not : (ds : List ℕ) (o : Option (List ℕ)) → is_number ds ≡ false → closed ds o ≡ bad
 unfolding closed
-closed_not ds none e = refl
-closed_not ds (some rest) e = rw e
+closed_not ds None e = refl
+closed_not ds (Some rest) e = rw e
 
 closed_on : (ds tail : List ℕ) (o : Option (List ℕ)) → closed ds (on tail o) ≡ line_on tail (closed ds o)
 unfolding closed
-closed_on ds tail none = refl
-closed_on ds tail (some rest) = go (is_number ds)
+closed_on ds tail None = refl
+closed_on ds tail (Some rest) = go (is_number ds)
   where
     go : (t : Bool) → ◌≡◌ {A = Line} (cond t (good (value_of 0 ds) (rest ++ tail)) bad) (line_on tail (cond t (good (value_of 0 ds) rest) bad))
     go true = refl
@@ -132,7 +132,7 @@ left_of (good v rest) = rest
 not_good : {l : Line} {v : ℕ} {rest : List ℕ} → l ≡ bad → l ≡ good v rest → ⊥
 not_good p q = let z : ◌≡◌ {A = ℕ} 0 1 = cc in omega arith
 
-closed_left : (ds x : List ℕ) (v : ℕ) (rest : List ℕ) → closed ds (some x) ≡ good v rest → x ≡ rest
+closed_left : (ds x : List ℕ) (v : ℕ) (rest : List ℕ) → closed ds (Some x) ≡ good v rest → x ≡ rest
 unfolding closed
 closed_left ds x v rest e = go (is_number ds) e
   where
@@ -145,8 +145,8 @@ unfolding held closed
 held_left x cs v rest e = go (after (x ∷ []) (drop (length (digits cs)) cs)) refl
   where
     go : (o : Option (List ℕ)) → after (x ∷ []) (drop (length (digits cs)) cs) ≡ o → length cs ≤ length rest + 8
-    go none q = absurd (not_good (ap (closed (digits cs)) q) e)
-    go (some y) q = ⊎_elim
+    go None q = absurd (not_good (ap (closed (digits cs)) q) e)
+    go (Some y) q = ⊎_elim
         (λ l. absurd (not_good (closed_not (digits cs) (after (x ∷ []) (drop (length (digits cs)) cs)) (long_number (digits cs) l)) e))
         (λ l. omega (arith, after_length (x ∷ []) (drop (length (digits cs)) cs) y q, length-drop (length (digits cs)) cs, ap length (closed_left (digits cs) y v rest (sym (ap (closed (digits cs)) q) ∙ e))))
         (le_or_lt 8 (length (digits cs)))
@@ -166,16 +166,16 @@ to_front x key = record { on = on'; left = left' }
         same = after_on key bs tail (omega arith)
 
         go : (o : Option (List ℕ)) → after key bs ≡ o → number_to (x ∷ []) key (bs ++ tail) ≡ line_on tail (number_to (x ∷ []) key bs)
-        go none e = number_none x key (bs ++ tail) (same ∙ ap (on tail) e) ∙ sym (ap (line_on tail) (number_none x key bs e))
-        go (some cs) e =
+        go None e = number_none x key (bs ++ tail) (same ∙ ap (on tail) e) ∙ sym (ap (line_on tail) (number_none x key bs e))
+        go (Some cs) e =
             number_some x key (bs ++ tail) (cs ++ tail) (same ∙ ap (on tail) e) ∙ held_on x cs tail (omega (arith, after_length key bs cs e)) ∙ sym (ap (line_on tail) (number_some x key bs cs e))
 
     left' : (bs : List ℕ) (v : ℕ) (rest : List ℕ) → number_to (x ∷ []) key bs ≡ good v rest → length bs ≤ length rest + (length key + 8)
     left' bs v rest e = go (after key bs) refl
       where
         go : (o : Option (List ℕ)) → after key bs ≡ o → length bs ≤ length rest + (length key + 8)
-        go none q = absurd (not_good (number_none x key bs q) e)
-        go (some cs) q = omega (arith, after_length key bs cs q, held_left x cs v rest (sym (number_some x key bs cs q) ∙ e))
+        go None q = absurd (not_good (number_none x key bs q) e)
+        go (Some cs) q = omega (arith, after_length key bs cs q, held_left x cs v rest (sym (number_some x key bs cs q) ∙ e))
 
 number_front : (key : List ℕ) → Front (number_line key) (length key + 8)
 number_front key = let f = to_front 10 key in record {
@@ -185,23 +185,23 @@ number_front key = let f = to_front 10 key in record {
 
 -- ---- the line of the order
 abbrev ordered : Option (List ℕ) → Option (List ℕ) → Line
-ordered (some rest) o = good 0 rest
-ordered none (some rest) = good 1 rest
-ordered none none = bad
+ordered (Some rest) o = good 0 rest
+ordered None (Some rest) = good 1 rest
+ordered None None = bad
 
 order_by : (bs : List ℕ) → order_line bs ≡ ordered (after (text "order=big\n") bs) (after (text "order=little\n") bs)
 unfolding order_line
 order_by bs = go (after (text "order=big\n") bs) (after (text "order=little\n") bs)
   where
-    go : (a b : Option (List ℕ)) → ◌≡◌ {A = Line} (elim a [ some rest ↦ good 0 rest | none ↦ elim b [ some rest ↦ good 1 rest | none ↦ bad ] ]) (ordered a b)
-    go (some rest) b = refl
-    go none (some rest) = refl
-    go none none = refl
+    go : (a b : Option (List ℕ)) → ◌≡◌ {A = Line} (elim a [ Some rest ↦ good 0 rest | None ↦ elim b [ Some rest ↦ good 1 rest | None ↦ bad ] ]) (ordered a b)
+    go (Some rest) b = refl
+    go None (Some rest) = refl
+    go None None = refl
 
 ordered_on : (tail : List ℕ) (a b : Option (List ℕ)) → ordered (on tail a) (on tail b) ≡ line_on tail (ordered a b)
-ordered_on tail (some rest) b = refl
-ordered_on tail none (some rest) = refl
-ordered_on tail none none = refl
+ordered_on tail (Some rest) b = refl
+ordered_on tail None (Some rest) = refl
+ordered_on tail None None = refl
 
 order_front : Front order_line 13
 order_front = record { on = on'; left = left' }
@@ -215,9 +215,9 @@ order_front = record { on = on'; left = left' }
     left' bs v rest e = go (after (text "order=big\n") bs) (after (text "order=little\n") bs) refl refl (sym (order_by bs) ∙ e)
       where
         go : (a b : Option (List ℕ)) → after (text "order=big\n") bs ≡ a → after (text "order=little\n") bs ≡ b → ordered a b ≡ good v rest → length bs ≤ length rest + 13
-        go (some x) b p q r = omega (arith, after_length (text "order=big\n") bs x p, ap (λ l. length (left_of l)) r)
-        go none (some x) p q r = omega (arith, after_length (text "order=little\n") bs x q, ap (λ l. length (left_of l)) r)
-        go none none p q r = absurd (not_good refl r)
+        go (Some x) b p q r = omega (arith, after_length (text "order=big\n") bs x p, ap (λ l. length (left_of l)) r)
+        go None (Some x) p q r = omega (arith, after_length (text "order=little\n") bs x q, ap (λ l. length (left_of l)) r)
+        go None None p q r = absurd (not_good refl r)
 
 -- ---- lines one after the other
 pub data Fronts : List (List ℕ → Line) → ℕ → Type 0 where
