@@ -14,8 +14,6 @@ use lib.ListN.{length, take, drop, length-append, length-drop, take-append-drop}
 use lib.Seq.{drop-append-le, take_all, length-take-le}
 use Rattle.laws.specs.Text.{text}
 use Rattle.laws.proofs.Naturals.{le_or_lt}
-use Rattle.method.specs.declared.Found.{Found}
-use Rattle.method.specs.declared.Found.TheVariants.{Nowhere, At}
 use Rattle.method.specs.Cast.{between, cells, sides_fit}
 use Rattle.method.specs.Numbers.{last_digit, spelled, decimal, digits, is_digit, is_number, value_of}
 use Rattle.method.specs.Form.{order_word, line, header_written, Line, bad, good, after, closed, number_line, order_line, lines, Lines, wrong, right, more, read_lines, header_of, header, wrong_line, bad_line}
@@ -285,15 +283,15 @@ unfolding wrong_line
 wrong_on tail (wrong k) = refl
 wrong_on tail (right vs rest) = refl
 
-pub not_nowhere : {f : Found} {p : ℕ} → f ≡ At p → f ≡ Nowhere → ⊥
+pub not_nowhere : {f : Option ℕ} {p : ℕ} → f ≡ Some p → f ≡ None → ⊥
 not_nowhere p q = let z : ◌≡◌ {A = ℕ} 0 1 = cc in omega arith
 
-body_left : (m : ℕ) (ls : Lines) → Left m ls → wrong_line ls ≡ Nowhere → m ≤ length (header_of ls).body
+body_left : (m : ℕ) (ls : Lines) → Left m ls → wrong_line ls ≡ None → m ≤ length (header_of ls).body
 unfolding wrong_line header_of
 body_left m (wrong k) h e = absurd (not_nowhere refl e)
 body_left m (right vs rest) h e = h
 
-body_long : (bs : List ℕ) (m : ℕ) → m + 94 ≤ length bs → bad_line bs ≡ Nowhere → m ≤ length (header bs).body
+body_long : (bs : List ℕ) (m : ℕ) → m + 94 ≤ length bs → bad_line bs ≡ None → m ≤ length (header bs).body
 unfolding bad_line header
 body_long bs m h e = body_left m (read_lines 1 lines bs) (lines_left 1 94 lines seven bs m h) e
 
@@ -307,32 +305,32 @@ module _ (bs tail : List ℕ) (h : 94 ≤ length bs) where
   same_sides = ap (λ ls. (header_of ls).sides) (lines_on_lem 1 94 lines seven bs tail h) ∙ sides_on tail (read_lines 1 lines bs)
 
 -- ---- the verdict on a long input
-abbrev early : Found → Bool → Bool → Verdict
-early (At p) t u = refused 10 p
-early Nowhere false u = refused 1 0
-early Nowhere true true = refused 2 0
-early Nowhere true false = refused 11 0
+abbrev early : Option ℕ → Bool → Bool → Verdict
+early (Some p) t u = refused 10 p
+early None false u = refused 1 0
+early None true true = refused 2 0
+early None true false = refused 11 0
 
 module _ (room : ℕ) (bs : List ℕ) (h : 5 * room + 1 + 94 ≤ length bs) where
-  verdict_long : (f : Found) (t u : Bool) → bad_line bs ≡ f → sides_fit (header bs).sides ≡ t → ltb room (cells (header bs).sides) ≡ u
+  verdict_long : (f : Option ℕ) (t u : Bool) → bad_line bs ≡ f → sides_fit (header bs).sides ≡ t → ltb room (cells (header bs).sides) ≡ u
       → verdict (program_checks room) (bare room bs) ≡ early f t u
   unfolding program_checks line_check side_check body_check
-  verdict_long (At p) t u x y z = fails_at _ _ (bare room bs) p x
-  verdict_long Nowhere false u x y z = passes_on _ _ (bare room bs) x ∙ fails_at _ _ (bare room bs) 0 (fault_yes _ y)
-  verdict_long Nowhere true true x y z = passes_on _ _ (bare room bs) x ∙ passes_on _ _ (bare room bs) (fault_no _ y) ∙ fails_at _ _ (bare room bs) 0 (fault_too_many _ z)
-  verdict_long Nowhere true false x y z =
+  verdict_long (Some p) t u x y z = fails_at _ _ (bare room bs) p x
+  verdict_long None false u x y z = passes_on _ _ (bare room bs) x ∙ fails_at _ _ (bare room bs) 0 (fault_yes _ y)
+  verdict_long None true true x y z = passes_on _ _ (bare room bs) x ∙ passes_on _ _ (bare room bs) (fault_no _ y) ∙ fails_at _ _ (bare room bs) 0 (fault_too_many _ z)
+  verdict_long None true false x y z =
       passes_on _ _ (bare room bs) x ∙ passes_on _ _ (bare room bs) (fault_no _ y) ∙ passes_on _ _ (bare room bs) (fault_none _ z)
       ∙ fails_at _ _ (bare room bs) 0 (fault_yes _ (ne_eqb (length (header bs).body) (5 * cells (header bs).sides) longer))
     where
       longer : length (header bs).body ≡ 5 * cells (header bs).sides → ⊥
       longer e = omega (arith, body_long bs (5 * room + 1) h x, ltb-false room (cells (header bs).sides) z)
 
-early_print : (room : ℕ) (bs cs : List ℕ) (f : Found) (t u : Bool) → verdict (program_checks room) (bare room bs) ≡ early f t u
+early_print : (room : ℕ) (bs cs : List ℕ) (f : Option ℕ) (t u : Bool) → verdict (program_checks room) (bare room bs) ≡ early f t u
     → verdict (program_checks room) (bare room cs) ≡ early f t u → printed room bs ≡ printed room cs
-early_print room bs cs (At p) t u x y = printed_refused room bs 10 p x ∙ sym (printed_refused room cs 10 p y)
-early_print room bs cs Nowhere false u x y = printed_refused room bs 1 0 x ∙ sym (printed_refused room cs 1 0 y)
-early_print room bs cs Nowhere true true x y = printed_refused room bs 2 0 x ∙ sym (printed_refused room cs 2 0 y)
-early_print room bs cs Nowhere true false x y = printed_refused room bs 11 0 x ∙ sym (printed_refused room cs 11 0 y)
+early_print room bs cs (Some p) t u x y = printed_refused room bs 10 p x ∙ sym (printed_refused room cs 10 p y)
+early_print room bs cs None false u x y = printed_refused room bs 1 0 x ∙ sym (printed_refused room cs 1 0 y)
+early_print room bs cs None true true x y = printed_refused room bs 2 0 x ∙ sym (printed_refused room cs 2 0 y)
+early_print room bs cs None true false x y = printed_refused room bs 11 0 x ∙ sym (printed_refused room cs 11 0 y)
 
 -- THE FRONT DECIDES: what follows 5 bytes a cell of room, one byte more and 94 bytes of header, changes nothing that is
 -- printed
