@@ -26,7 +26,7 @@ use Rattle.laws.proofs.Fills.{filled_front}
 use Rattle.laws.proofs.Loops.{Up, ups, up_first, up_more, up_end}
 use Rattle.method.specs.declared.Sides.{Sides}
 use Rattle.method.specs.declared.Settings.{Settings}
-use Rattle.std.specs.Prelude.{Option, None, Some}
+use Rattle.std.specs.Prelude.{Option, None, Some, is_some}
 use Rattle.method.specs.Cast.{cells, label_at, is_air, is_opening, field, level, judged, residual, worst, or_else, first}
 use Rattle.method.specs.Transfers.{value}
 use Rattle.method.specs.Ticks.{tick, ticks, is_refused, whole_of, rounded, passes}
@@ -38,7 +38,6 @@ use Rattle.ticks.specs.declared.Faces.{Faces}
 use Rattle.ticks.specs.Worst.{worst_step}
 use Rattle.ticks.proofs.TickWhole.{tick_within}
 use Rattle.ticks.proofs.Laws.{walks, Gathering, gathering_next, count_open, count_wall, sum_open, sum_wall, worst_is}
-use Rattle.acceptance.specs.declared.Tested.TheVariants.{Passed, Failed}
 use Rattle.acceptance.specs.Trial.{tested}
 use Rattle.acceptance.specs.Cells.{rounded_on, pressure_by, Pressure, Added, refused_at}
 
@@ -155,17 +154,19 @@ module _ (ls : List ℕ) (x : List Float) (c l : ℕ) (e : l ≡ label_at ls c) 
   unfolding refused_at is_air
   refused_air t k q = rw (eq-eqb (label_at ls c) 0 (omega arith)) (ap is_refused q)
 
-  pub refused_kept : (t : Option ℤ) (z : ℤ) → l ≡ 0 → t ≡ tick (value x c) → t ≡ Some z → false ≡ refused_at ls x c
+  pub refused_by : (t : Option ℤ) (r : Bool) → l ≡ 0 → t ≡ tick (value x c) → is_some t ≡ not r → r ≡ refused_at ls x c
   unfolding is_refused
-  refused_kept t z k q w = ap is_refused (sym w) ∙ refused_air t k q
+  refused_by t r k q w = none_is t r w ∙ refused_air t k q
+    where
+      none_is : (t : Option ℤ) (r : Bool) → is_some t ≡ not r → r ≡ is_refused t
+      none_is (Some z) false w = refl
+      none_is (Some z) true w = cc
+      none_is None true w = refl
+      none_is None false w = cc
 
-  pub refused_lost : (t : Option ℤ) → l ≡ 0 → t ≡ tick (value x c) → t ≡ None → true ≡ refused_at ls x c
-  unfolding is_refused
-  refused_lost t k q w = ap is_refused (sym w) ∙ refused_air t k q
-
-  pub refused_not : (l ≡ 0 → ⊥) → false ≡ refused_at ls x c
+  pub refused_not : (r : Bool) → r ≡ eqb l 0 → (l ≡ 0 → ⊥) → r ≡ refused_at ls x c
   unfolding refused_at is_air
-  refused_not k = rw (ne_eqb (label_at ls c) 0 (λ z. k (e ∙ z)))
+  refused_not r q k = rw (ne_eqb (label_at ls c) 0 (λ z. k (e ∙ z))) (q ∙ ne_eqb l 0 k)
 
 -- ---- a cell across a face, by its label l
 module _ (g : Sides) (ls : List ℕ) (vs : List ℤ) (x : List Float) (j l : ℕ) (e : l ≡ label_at ls j) (long : length ls ≡ cells g) where
@@ -218,12 +219,12 @@ module _ (g : Sides) (ls : List ℕ) (vs : List ℤ) (x : List Float) (t : Setti
       ap₂ (λ u v. not u && leb v t.tolerance) (some_refused g ls vs x long ∙ ap met (sym e)) (sym (worst_is g ls vs (rounded_on g ls vs x) w long q))
 
   pub refused_fails : (b : Bool) → c < length ls → NoneBelow (refused_at ls x) c → b ≡ refused_at ls x c → b ≡ true
-      → Failed ≡ tested (record { sides = g; labels = ls; values = vs }) t x
+      → None ≡ tested (record { sides = g; labels = ls; values = vs }) t x
   unfolding tested met
   refused_fails b l h e k = rw (passes_is (Some c) _ (hit (refused_at ls x) c (length ls) b l h e k) refl)
 
   pub beyond_fails : (w v : ℕ) → c < length ls → Up (worst_step g ls vs (rounded_on g ls vs x)) 0 c w → v ≡ worst_step g ls vs (rounded_on g ls vs x) c w → t.tolerance < v
-      → Failed ≡ tested (record { sides = g; labels = ls; values = vs }) t x
+      → None ≡ tested (record { sides = g; labels = ls; values = vs }) t x
   unfolding tested
   beyond_fails w v l h e k =
       let n : v ≡ up (worst_step g ls vs (rounded_on g ls vs x)) (c + 1) 0 = (up_more h e).is in
@@ -231,17 +232,17 @@ module _ (g : Sides) (ls : List ℕ) (vs : List ℤ) (x : List Float) (t : Setti
       omega (arith, worst_grows g ls vs (rounded_on g ls vs x) (c + 1) (length ls) (omega arith)) in
       rw (passes_is _ _ refl refl, lt-leb _ t.tolerance m) (no (not (met (first (refused_at ls x) (length ls)))))
     where
-      no : (b : Bool) → Failed ≡ cond (b && false) (Passed (worst (record { sides = g; labels = ls; values = vs }) (rounded_on g ls vs x))) Failed
+      no : (b : Bool) → None ≡ cond (b && false) (Some (worst (record { sides = g; labels = ls; values = vs }) (rounded_on g ls vs x))) None
       no true = refl
       no false = refl
 
   pub within_passes : (w : ℕ) → c ≤ length ls → length ls ≤ c → NoneBelow (refused_at ls x) c → Up (worst_step g ls vs (rounded_on g ls vs x)) 0 c w → w ≤ t.tolerance
-      → Passed w ≡ tested (record { sides = g; labels = ls; values = vs }) t x
+      → Some w ≡ tested (record { sides = g; labels = ls; values = vs }) t x
   unfolding tested met
   within_passes w a b h u k =
       let q : w ≡ up (worst_step g ls vs (rounded_on g ls vs x)) (length ls) 0 = up_end (length ls) u a b in
       rw (passes_is None w (none_end (refused_at ls x) c (length ls) a b h) q, le-leb w t.tolerance k)
-      (ap Passed (worst_is g ls vs (rounded_on g ls vs x) w long q))
+      (ap Some (worst_is g ls vs (rounded_on g ls vs x) w long q))
 
 -- ---- the pressures, written down
 abbrev pub writing : List ℕ → List ℤ → List Float → ℕ → List ℤ → List ℤ
@@ -266,4 +267,4 @@ pub ruleset gathers = (walks, gathering_added)
 
 pub ruleset turns = (ups, none_none)
 
-pub ruleset verdicts = (ups, refused_kept, refused_lost, refused_not, refused_fails, beyond_fails, within_passes)
+pub ruleset verdicts = (ups, refused_by, refused_not, refused_fails, beyond_fails, within_passes)

@@ -15,7 +15,7 @@ fn level_at(labels: &[u8], values: &[i32], j: usize, sum: i64) -> i64
 {
     let opening = grid::near::label_at(labels, j) == 1;
     if opening {
-        signed_numbers::plus(sum, signed_numbers::wide(values[j]))
+        signed_numbers::plus(sum, i64::from(values[j]))
     } else {
         sum
     }
@@ -26,12 +26,9 @@ fn whole_at(labels: &[u8], values: &[i32], g: method::Sides, c: usize) -> i64
     requires { Fit g × ((length labels.now ≡ cells g) × ((length values.now ≡ length labels.now) × (c < cells g))) }
     ensures { WholeSide g labels.now values.now c result }
 {
-    let around = grid::near::neighbours(g, labels.len(), c);
-    let mut b = signed_numbers::wide(values[c]);
-    let mut i = 0;
-    while i < 6 {
-        b = level_at(labels, values, around[i], b);
-        i += 1;
+    let mut b = i64::from(values[c]);
+    for j in grid::near::neighbours(g, labels.len(), c) {
+        b = level_at(labels, values, j, b);
     }
     b
 }
