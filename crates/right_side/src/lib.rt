@@ -26,9 +26,10 @@ fn whole_at(labels: &[u8], values: &[i32], g: method::Sides, c: usize) -> i64
     requires { Fit g × ((length labels.now ≡ cells g) × ((length values.now ≡ length labels.now) × (c < cells g))) }
     ensures { WholeSide g labels.now values.now c result }
 {
+    let around = grid::near::neighbours(g, labels.len(), c);
     let mut b = i64::from(values[c]);
-    for j in grid::near::neighbours(g, labels.len(), c) {
-        b = level_at(labels, values, j, b);
+    for i in 0..6 {
+        b = level_at(labels, values, around[i], b);
     }
     b
 }
