@@ -1,10 +1,10 @@
 -- The whole call's checks before 7, in their order. Assumes nothing.
-use Prim.Native.Nat.{ℕ, zero, suc, ◌*◌, ◌^◌, ◌≤◌, ◌<◌}
+use Prim.Native.Nat.{ℕ, ◌*◌, ◌^◌, ◌≤◌, ◌<◌}
 use mathlib.Core.Path.{◌≡◌, refl, sym, ap, ◌∙◌}
 use mathlib.Core.Bool.{Bool, true, false, not, ◌&&◌, false≢true}
 use native.Mathlib.Nat.{mul-le-mul}
 use native.Mathlib.Omega.{arith}
-use borrow.Author.Tests.{ne_eqb, lt-ltb, eqb-true}
+use borrow.Author.Tests.{eqb-true}
 use lib.Dec.{ltb, eqb}
 use lib.ListN.{length}
 use Rattle.method.specs.declared.Sides.{Sides}
@@ -18,7 +18,7 @@ use Rattle.answers.specs.declared.Fault.{Fault}
 use Rattle.checks.specs.Rulings.{ruling_of, unless}
 use Rattle.checks.specs.Faults.{bad_label_at}
 use Rattle.checks.proofs.RuleLaws.{ruled_well, side_is, length_is, setting_is, label_is, no_air_is, ruling_more, test_more, test_last}
-use Rattle.checks.proofs.CheckLaws.{label_fault_lem}
+use Rattle.checks.proofs.CheckLaws.{label_fault_lem, none_is}
 use Rattle.many_checks.specs.declared.Lengths.{Lengths}
 use Rattle.method.specs.Many.{AskedMany, many_size, sets_fit, many_lengths_fit, many_checks_before7}
 use Rattle.many_checks.specs.ManyRulings.{lengths_of, lengths_by, many_ruling}
@@ -30,10 +30,6 @@ no_wrap sets n h k =
     omega (arith, mul-le-mul most k)
 
 -- ---- the ruling is the verdict of document 02's checks
-none_is : (i : ℕ) → fault (eqb i 0) ≡ fault (not (ltb 0 i))
-none_is zero = refl
-none_is (suc i) = ap fault (ne_eqb (suc i) 0 (λ p. omega arith)) ∙ ap (λ b. fault (not b)) (sym (lt-ltb 0 (suc i) (omega arith)))
-
 lengths_are : (a : AskedMany) → many_lengths_fit a ≡ lengths_by (many_size a) a.sets (length a.labels) (lengths_of a)
 unfolding many_lengths_fit lengths_by lengths_of
 lengths_are a = refl

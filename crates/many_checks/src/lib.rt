@@ -1,17 +1,16 @@
 // One cast with many sets (document 02, wish 1): the checks of the whole call before 7, in their order 1, 2, 3, 4, 6.
 #![tactic(auto)]
 
-ghost use Rattle.std.specs.Prelude.{◌≡◌, ◌&&◌, ◌*◌, ◌≤◌, ltb, length};
-ghost use Rattle.method.specs.Cast.{cells, settings_fit, interior};
-ghost use Rattle.answers.specs.declared.Fault.TheVariants.{SettingOutOfRange, NoAir};
+ghost use Rattle.std.specs.Prelude.{◌≡◌, ◌&&◌, ◌*◌, ◌≤◌, length};
+ghost use Rattle.method.specs.Cast.{cells, settings_fit};
+ghost use Rattle.answers.specs.declared.Fault.TheVariants.{SettingOutOfRange};
 ghost use Rattle.checks.specs.Rulings.{unless};
 ghost use Rattle.theory.specs.Sides.{Fit};
 ghost use Rattle.method.specs.Many.{sets_fit};
 ghost use Rattle.many_checks.specs.ManyRulings.{lengths_by, content_ruling, many_ruling};
 
 use answers::Fault;
-use checks::cast::{judge_labels, judge_sides, settings_fit};
-use grid::interior::interior;
+use checks::cast::{judge_air, judge_labels, judge_sides, settings_fit};
 use grid::place::cell_count;
 use method::{Settings, Sides};
 
@@ -72,18 +71,6 @@ fn judge_task(settings: Settings, sets: u32) -> Result<(), Fault>
         Ok(())
     } else {
         Err(Fault::SettingOutOfRange)
-    }
-}
-
-// Check 6 and its fault.
-fn judge_air(sides: Sides, labels: &[u8]) -> Result<(), Fault>
-    requires { Fit sides }
-    ensures { result ≡ unless NoAir (ltb 0 (interior sides labels.now)) }
-{
-    if 0 < interior(labels, sides) {
-        Ok(())
-    } else {
-        Err(Fault::NoAir)
     }
 }
 
