@@ -13,14 +13,12 @@ use Rattle.theory.specs.Levels.{sides_at, labels_at, cells_before, air_before}
 use Rattle.theory.specs.Sides.{Fit}
 use Rattle.theory.proofs.Sides.{fits}
 use Rattle.theory.proofs.Kept.{air_of_six}
-use Rattle.levels.specs.declared.sides.Levels.{Levels}
 use Rattle.levels.specs.Rooms.{written}
-use Rattle.levels.specs.Levels.{base}
+use Rattle.levels.specs.Levels.{Levels, base}
 use Rattle.levels.specs.AllLabels.{all_labels, LabelsAsked}
 use Rattle.levels.proofs.Calls.{labels_in_lem}
-use Rattle.bands.specs.declared.lists.Lists.{Lists}
 use Rattle.bands.specs.Lists.{Listed}
-use Rattle.bands.specs.AllLists.{AllListed, base_labels, ListsAsked}
+use Rattle.bands.specs.AllLists.{Lists, AllListed, base_labels, ListsAsked}
 
 module _ (l : Levels) (count : ℕ) (ls e s : List ℕ) (a : LabelsAsked l count (length ls) (length e)) (h : s ≡ written e 0 (all_labels (base l) ls count)) where
   pub base_labels_lem : base_labels l s ≡ ls

@@ -326,10 +326,11 @@ module _ (b : Bool) (g : Sides) (ls : List ℕ) where
       pub air_count : r + q ≤ length e
       air_count = omega (arith, u.count, v.count, left_long, both_le)
 
-      pub air_listed : LevelListed e a (list_of b g ls) (air_of b g ls) (record { swept = r; air = r + q }) t
+      pub air_listed : LevelListed e a (list_of b g ls) (air_of b g ls) (record { start = a; swept = r; air = r + q }) t
       air_listed =
           let long : r + q ≡ length (air_of b g ls) = omega (arith, u.count, v.count, length-append (list_of b g ls) (left_of b g ls)) in
           record {
+            start = refl;
             count = u.count;
             whole = long;
             room =

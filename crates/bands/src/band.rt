@@ -148,53 +148,72 @@ fn block_other(labels: &[u8], g: Sides, h: Sides, s: Spot, first: usize, q: usiz
     labels[at] != 0
 }
 
-// Whether a coarse cell that gives to the cell at s has a child that isn't air, where all are in the box. Left at the
-// first such child.
+// Whether the q-th coarse cell has a child that isn't air, where all are in the box. Left at the first such child.
+fn block_parent_other(labels: &[u8], g: Sides, h: Sides, s: Spot, first: usize, q: usize) -> bool
+    requires block_asked { BlockAsked g h s first (length labels.now) }
+    requires q_bound { q < 8 }
+    ensures { result ≡ parent_other labels.now g h s q }
+{
+    for t in 0..8 {
+        if block_other(labels, g, h, s, first, q, t) {
+            return true;
+        }
+    }
+    false
+}
+
+// Whether a coarse cell that gives to the cell at s has one, where all are in the box. Left at the first such child.
 fn in_block_other(labels: &[u8], g: Sides, h: Sides, s: Spot, first: usize) -> bool
     requires { BlockAsked g h s first (length labels.now) }
     ensures { result ≡ some (parent_other labels.now g h s) 8 }
 {
-    let mut found = false;
-    let mut q = 0;
-    'coarse: while q < 8 {
-        let mut t = 0;
-        while t < 8 {
-            if block_other(labels, g, h, s, first, q, t) {
-                found = true;
-                break 'coarse;
-            }
-            t += 1;
+    for q in 0..8 {
+        if block_parent_other(labels, g, h, s, first, q) {
+            return true;
         }
-        q += 1;
     }
-    found
+    false
 }
 
-// The same wherever they are; a coarse place outside counts as having one.
+// Whether the q-th coarse cell has a child that isn't air, wherever they are; a coarse place outside counts as having
+// one.
+fn parent_has_other(
+    labels: &[u8],
+    g: Sides,
+    h: Sides,
+    n: usize,
+    m: usize,
+    s: Spot,
+    q: usize,
+) -> bool
+    requires around_asked { AroundAsked g h n m s }
+    requires q_bound { q < 8 }
+    ensures { result ≡ parent_other labels.now g h s q }
+{
+    if is_outside(h, m, s, q) {
+        return true;
+    }
+    let k = parent_spot(s, q);
+    let first = first_child(g, n, k);
+    for t in 0..8 {
+        if is_other(labels, g, n, k, first, t) {
+            return true;
+        }
+    }
+    false
+}
+
+// Whether a coarse cell that gives to the cell at s has one. Left at the first such child.
 fn around_other(labels: &[u8], g: Sides, h: Sides, n: usize, m: usize, s: Spot) -> bool
     requires { AroundAsked g h n m s }
     ensures { result ≡ some (parent_other labels.now g h s) 8 }
 {
-    let mut found = false;
-    let mut q = 0;
-    'coarse: while q < 8 {
-        if is_outside(h, m, s, q) {
-            found = true;
-            break 'coarse;
+    for q in 0..8 {
+        if parent_has_other(labels, g, h, n, m, s, q) {
+            return true;
         }
-        let k = parent_spot(s, q);
-        let first = first_child(g, n, k);
-        let mut t = 0;
-        while t < 8 {
-            if is_other(labels, g, n, k, first, t) {
-                found = true;
-                break 'coarse;
-            }
-            t += 1;
-        }
-        q += 1;
     }
-    found
+    false
 }
 
 // Whether cell c is in the band. h is the sides of the next level, n and m the numbers of cells of the two.

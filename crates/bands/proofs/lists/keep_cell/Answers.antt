@@ -2,12 +2,6 @@
 use Rattle.bands.proofs.Chosen.{keeps_either}
 use Rattle.bands.proofs.lists.keep_cell.Goals as goal
 
-pub cell_count-n-requires : goal.cell_count-n-requires
-cell_count-n-requires c = search keeps_either
-
-pub halved_of-h-requires : goal.halved_of-h-requires
-halved_of-h-requires c = search keeps_either
-
 pub cell_count-m-requires : goal.cell_count-m-requires
 cell_count-m-requires c = search keeps_either
 
@@ -23,14 +17,8 @@ keep_air-requires c = record {
   n_value = search keeps_either;
 }
 
-pub shape_of-words-then-band : goal.shape_of-words-then-band
-shape_of-words-then-band c = search keeps_either
-
 pub returns-then-band : goal.returns-then-band
 returns-then-band c = search keeps_either
-
-pub shape_of-words-else-band : goal.shape_of-words-else-band
-shape_of-words-else-band c = search keeps_either
 
 pub returns-else-band : goal.returns-else-band
 returns-else-band c = search keeps_either
