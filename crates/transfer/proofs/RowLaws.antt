@@ -1,10 +1,9 @@
 -- A source row and a target row: a cell of the row, the four of a coarse cell, the two of a fine cell, the row of
 -- targets. Assumes nothing.
-use Prim.Native.Nat.{ℕ, zero, suc, ◌+◌, ◌-◌, ◌*◌, ◌/◌, ◌%◌, ◌<◌, ◌≤◌}
+use Prim.Native.Nat.{ℕ, ◌+◌, ◌-◌, ◌*◌, ◌/◌, ◌%◌, ◌<◌, ◌≤◌}
 use mathlib.Core.Path.{◌≡◌, refl, sym, ap, ◌∙◌}
 use mathlib.Core.Bool.{Bool, true, false, ◌&&◌, cond}
 use mathlib.Core.List.{List}
-use native.Mathlib.Numerals.{add-one}
 use native.Mathlib.Omega.{arith}
 use borrow.Author.Rules.{rules}
 use borrow.Author.Tests.{eq-eqb, ne_eqb, lt-ltb, le-ltb, le-leb, lt-leb}
@@ -13,9 +12,8 @@ use lib.ListN.{length, get_or, set, take, drop}
 use lib.Ieee.{Float, nan}
 use Rattle.laws.specs.Binary64.{◌⊕◌, ◌⊗◌}
 use Rattle.laws.specs.Loops.{up}
-use Rattle.laws.proofs.Loops.{Up, up_more, up_first}
-use Rattle.laws.proofs.Fill.{up_same}
-use Rattle.transfer.specs.Rows.{row_term, four, two, Share, row_step, Halves, Middle, pair_step, Pairs}
+use Rattle.laws.proofs.Loops.{Up, up_more}
+use Rattle.transfer.specs.Rows.{row_term, four, two, Share, row_step, pair_step}
 
 -- ---- a cell of the row
 module _ (row : List Float) (p : ℕ) (w a : Float) where
@@ -93,58 +91,30 @@ row_set share f n o i w v r e q =
     let long : f + n - f ≡ n = omega arith in
     ap (set e (o + i)) (q ∙ ap (λ k. share (take k (drop f e)) w v i (get_or e (o + i) nan)) long)
 
--- ---- the row: its first cell, then the others
-module _ (share : Share) (f n o : ℕ) (w v : Float) (e a : List Float) (p : a ≡ row_step share f n o w v 0 e) where
-  first_rest : (r : ℕ) (b : List Float) → b ≡ up (λ j. row_step share f n o w v (j + 1)) r a → b ≡ up (row_step share f n o w v) (r + 1) e
-  first_rest r b q =
-      q
-      ∙ up_same (λ j. row_step share f n o w v (j + 1)) (λ j. row_step share f n o w v (suc j)) a r (λ j s l. ap (λ k. row_step share f n o w v k s) (add-one j))
-      ∙ ap (up (λ j. row_step share f n o w v (suc j)) r) p
-      ∙ sym (up_first (row_step share f n o w v) r e)
-      ∙ ap (λ k. up (row_step share f n o w v) k e) (sym (add-one r))
+-- ---- the row, cell after cell
+module _ (share : Share) (f n o : ℕ) (w v : Float) (e s : List Float) where
+  -- its first cell
+  pub row_first : s ≡ row_step share f n o w v 0 e → Up (row_step share f n o w v) e 1 s
+  unfolding up
+  row_first p = record { is = p }
 
-  one_last : (r m : ℕ) (b c : List Float) → b ≡ up (row_step share f n o w v) (r + 1) e → r + 1 + 1 ≡ m → c ≡ row_step share f n o w v (r + 1) b → c ≡ up (row_step share f n o w v) m e
-  one_last r m b c h k q =
-      let u : Up (row_step share f n o w v) e (r + 1) b = record { is = h } in
-      (up_more u q).is ∙ ap (λ k. up (row_step share f n o w v) k e) k
+  -- its last one
+  pub row_last : (t : List Float) (i m : ℕ) → Up (row_step share f n o w v) e i s → i + 1 ≡ m → t ≡ row_step share f n o w v i s → t ≡ up (row_step share f n o w v) m e
+  row_last t i m u k q = (up_more u q).is ∙ ap (λ k. up (row_step share f n o w v) k e) k
 
--- those in the middle and the last, of a row of coarse cells
-module _ (f n o m r : ℕ) (w v : Float) (e a b : List Float) (p : a ≡ row_step four f n o w v 0 e) (h : Middle four f n o m w v a b r) where
-  pub row_done : m ≤ r + 1 → b ≡ up (row_step four f n o w v) m e
-  row_done l = let k : r + 1 ≡ m = omega (arith, h.most) in first_rest four f n o w v e a p r b h.is ∙ ap (λ k. up (row_step four f n o w v) k e) k
+-- the two fine cells between a coarse cell and the next
+module _ (f n o j : ℕ) (w v : Float) where
+  pub pair_is : (e a b : List Float) → a ≡ row_step two f n o w v (2 * j + 1) e → b ≡ row_step two f n o w v (2 * j + 1 + 1) a → b ≡ pair_step f n o w v j e
+  pair_is e a b p q =
+      let k : 2 * j + 1 + 1 ≡ 2 * j + 2 = omega arith in
+      q ∙ ap (row_step two f n o w v (2 * j + 1 + 1)) p ∙ ap (λ i. row_step two f n o w v i (row_step two f n o w v (2 * j + 1) e)) k
 
-  pub row_last : (c : List Float) → r + 1 < m → c ≡ row_step four f n o w v (r + 1) b → c ≡ up (row_step four f n o w v) m e
-  row_last c l q = one_last four f n o w v e a p r m b c (first_rest four f n o w v e a p r b h.is) (omega (arith, h.least)) q
+  pub pair_more : (e s t : List Float) → Up (row_step two f n o w v) e (2 * j + 1) s → t ≡ pair_step f n o w v j s → Up (row_step two f n o w v) e (2 * (j + 1) + 1) t
+  pair_more e s t u q =
+      let k : 2 * j + 1 + 1 + 1 ≡ 2 * (j + 1) + 1 = omega arith in
+      let i : 2 * j + 2 ≡ 2 * j + 1 + 1 = omega arith in
+      let first : Up (row_step two f n o w v) e (2 * j + 1 + 1) (row_step two f n o w v (2 * j + 1) s) = up_more u refl in
+      let both : Up (row_step two f n o w v) e (2 * j + 1 + 1 + 1) t = up_more first (q ∙ ap (λ i. row_step two f n o w v i (row_step two f n o w v (2 * j + 1) s)) i) in
+      record { is = both.is ∙ ap (λ k. up (row_step two f n o w v) k e) k }
 
-pub middle_is : (f n o m r : ℕ) (w v : Float) (e s : List Float) → Halves n m → Up (λ j. row_step four f n o w v (j + 1)) e r s → r + 1 ≤ m → n ≤ 2 * r + 4
-    → Middle four f n o m w v e s r
-middle_is f n o m r w v e s h u l k = record { is = u.is; most = l; least = omega (arith, h.few) }
-
--- the pairs and the last, of a row of fine cells
-pub pair_is : (f n o j : ℕ) (w v : Float) (e a b : List Float) → a ≡ row_step two f n o w v (2 * j + 1) e → b ≡ row_step two f n o w v (2 * j + 2) a → b ≡ pair_step f n o w v j e
-pair_is f n o j w v e a b p q = q ∙ ap (row_step two f n o w v (2 * j + 2)) p
-
-pairs_all : (f n o : ℕ) (w v : Float) (a : List Float) (r : ℕ) → up (pair_step f n o w v) r a ≡ up (λ j. row_step two f n o w v (j + 1)) (2 * r) a
-unfolding up
-pairs_all f n o w v a zero = refl
-pairs_all f n o w v a (suc r) =
-    let k : 2 * suc r ≡ suc (suc (2 * r)) = omega arith in
-    let i : 2 * r + 2 ≡ suc (2 * r) + 1 = omega arith in
-    ap (pair_step f n o w v r) (pairs_all f n o w v a r)
-    ∙ ap (λ k. row_step two f n o w v k (row_step two f n o w v (2 * r + 1) (up (λ j. row_step two f n o w v (j + 1)) (2 * r) a))) i
-    ∙ ap (λ n'. up (λ j. row_step two f n o w v (j + 1)) n' a) (sym k)
-
-module _ (f n o m r : ℕ) (w v : Float) (e a b : List Float) (p : a ≡ row_step two f n o w v 0 e) (h : Pairs f n o m w v a b r) where
-  after_pairs : b ≡ up (row_step two f n o w v) (2 * r + 1) e
-  after_pairs = first_rest two f n o w v e a p (2 * r) b (h.is ∙ pairs_all f n o w v a r)
-
-  pub pairs_done : m ≤ 2 * r + 1 → b ≡ up (row_step two f n o w v) m e
-  pairs_done l = let k : 2 * r + 1 ≡ m = omega (arith, h.most) in after_pairs ∙ ap (λ k. up (row_step two f n o w v) k e) k
-
-  pub pairs_last : (c : List Float) → 2 * r + 1 < m → c ≡ row_step two f n o w v (2 * r + 1) b → c ≡ up (row_step two f n o w v) m e
-  pairs_last c l q = one_last two f n o w v e a p (2 * r) m b c after_pairs (omega (arith, h.least)) q
-
-pub pairs_are : (f n o m r : ℕ) (w v : Float) (e s : List Float) → Up (pair_step f n o w v) e r s → 2 * r + 1 ≤ m → m ≤ 2 * r + 2 → Pairs f n o m w v e s r
-pairs_are f n o m r w v e s u l k = record { is = u.is; most = l; least = k }
-
-pub ruleset rows = (rules, cell_none, cell_in, cell_out, four_is, four_inside, row_set, row_done, row_last, two_even, two_odd, odd_inside, even_inside, pair_is, pairs_done, pairs_last)
+pub ruleset rows = (rules, cell_none, cell_in, cell_out, four_is, four_inside, row_set, row_first, row_last, two_even, two_odd, odd_inside, even_inside, pair_is, pair_more)
