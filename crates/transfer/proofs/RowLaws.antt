@@ -8,11 +8,13 @@ use native.Mathlib.Omega.{arith}
 use borrow.Author.Rules.{rules}
 use borrow.Author.Tests.{eq-eqb, ne_eqb, lt-ltb, le-ltb, le-leb, lt-leb}
 use lib.Dec.{ltb}
-use lib.ListN.{length, get_or, set, take, drop}
+use lib.ListN.{length, get_or, set, take, drop, length-drop}
+use lib.Seq.{length-take-le}
 use lib.Ieee.{Float, nan}
 use Rattle.laws.specs.Binary64.{◌⊕◌, ◌⊗◌}
 use Rattle.laws.specs.Loops.{up}
 use Rattle.laws.proofs.Loops.{Up, up_more}
+use Rattle.method.specs.Transfers.{value}
 use Rattle.transfer.specs.Rows.{row_term, four, two, Share, row_step, pair_step}
 
 -- ---- a cell of the row
@@ -57,6 +59,21 @@ module _ (row : List Float) (w v : Float) (i : ℕ) (a : Float) where
       (cell_at row (2 * i + 1) (2 * i + 2) v _ (omega arith) (omega arith))
       (cell_at row (2 * i + 2) (2 * i + 3) w _ (omega arith) (omega arith))
 
+-- the same of a part of the room, as the code borrows it
+module _ (r : List Float) (f n : ℕ) (w v : Float) (i : ℕ) (a : Float) where
+  as_lent : take (f + n - f) (drop f r) ≡ take n (drop f r)
+  as_lent = let long : f + n - f ≡ n = omega arith in ap (λ k. take k (drop f r)) long
+
+  pub part_four : (b c d e : Float) → b ≡ row_term (take (f + n - f) (drop f r)) (2 * i) w a → c ≡ row_term (take (f + n - f) (drop f r)) (2 * i + 1) v b
+      → d ≡ row_term (take (f + n - f) (drop f r)) (2 * i + 2) v c → e ≡ row_term (take (f + n - f) (drop f r)) (2 * i + 3) w d
+      → e ≡ four (take n (drop f r)) w v i a
+  part_four b c d e p q s t = four_is _ w v i a b c d e p q s t ∙ ap (λ k. four k w v i a) as_lent
+
+  pub inside_is : f + n ≤ length r → 0 < i → 2 * i + 3 ≤ n
+      → a ⊕ w ⊗ get_or (take (f + n - f) (drop f r)) (2 * i - 1) nan ⊕ v ⊗ get_or (take (f + n - f) (drop f r)) (2 * i) nan
+      ⊕ v ⊗ get_or (take (f + n - f) (drop f r)) (2 * i + 1) nan ⊕ w ⊗ get_or (take (f + n - f) (drop f r)) (2 * i + 2) nan ≡ four (take n (drop f r)) w v i a
+  inside_is l h m = four_inside _ w v i a h (omega (arith, length-take-le (f + n - f) (drop f r) (omega (arith, length-drop f r)))) ∙ ap (λ k. four k w v i a) as_lent
+
 -- ---- the two
 module _ (row : List Float) (w v : Float) (i : ℕ) (a : Float) where
   pub two_even : (b c : Float) → i % 2 ≡ 0 → b ≡ row_term row ((i + 1) / 2) w a → c ≡ row_term row ((i + 1) / 2 + 1) v b → c ≡ two row w v i a
@@ -85,11 +102,8 @@ module _ (row : List Float) (w v : Float) (j : ℕ) (a : Float) (l : j + 1 < len
       (cell_at row (j + 1) ((2 * j + 2 + 1) / 2 + 1) v _ (omega arith) (omega arith))
 
 -- ---- a target cell, as the code sets it
-pub row_set : (share : Share) (f n o i : ℕ) (w v r : Float) (e : List Float) → r ≡ share (take (f + n - f) (drop f e)) w v i (get_or e (o + i) nan)
-    → set e (o + i) r ≡ row_step share f n o w v i e
-row_set share f n o i w v r e q =
-    let long : f + n - f ≡ n = omega arith in
-    ap (set e (o + i)) (q ∙ ap (λ k. share (take k (drop f e)) w v i (get_or e (o + i) nan)) long)
+pub row_set : (share : Share) (f n o i : ℕ) (w v r : Float) (e : List Float) → r ≡ share (take n (drop f e)) w v i (value e (o + i)) → set e (o + i) r ≡ row_step share f n o w v i e
+row_set share f n o i w v r e q = ap (set e (o + i)) q
 
 -- ---- the row, cell after cell
 module _ (share : Share) (f n o : ℕ) (w v : Float) (e s : List Float) where
@@ -99,8 +113,8 @@ module _ (share : Share) (f n o : ℕ) (w v : Float) (e s : List Float) where
   row_first p = record { is = p }
 
   -- its last one
-  pub row_last : (t : List Float) (i m : ℕ) → Up (row_step share f n o w v) e i s → i + 1 ≡ m → t ≡ row_step share f n o w v i s → t ≡ up (row_step share f n o w v) m e
-  row_last t i m u k q = (up_more u q).is ∙ ap (λ k. up (row_step share f n o w v) k e) k
+  pub row_last : (t : List Float) (i l m : ℕ) → Up (row_step share f n o w v) e i s → i ≡ l → l + 1 ≡ m → t ≡ row_step share f n o w v l s → t ≡ up (row_step share f n o w v) m e
+  row_last t i l m u k j q = q ∙ ap (λ i. row_step share f n o w v i s) (sym k) ∙ (up_more u refl).is ∙ ap (λ k. up (row_step share f n o w v) (k + 1) e) k ∙ ap (λ k. up (row_step share f n o w v) k e) j
 
 -- the two fine cells between a coarse cell and the next
 module _ (f n o j : ℕ) (w v : Float) where

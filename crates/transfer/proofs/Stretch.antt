@@ -101,6 +101,10 @@ pub stretch_filled : (f : ℕ → List Float → Float) (o m : ℕ) (e s : List 
     → s ≡ up (λ c t. set t (o + c) (f c t)) m e → Stretch (λ c. f c e) o m e s
 stretch_filled f o m e s room same q = record { is = q ∙ filled f e o m room same }
 
+-- a part that is lent to the room's end holds the stretch
+pub lent_long : (o m : ℕ) (e : List Float) → o + m ≤ length e → m ≤ length (mid_of o (length e - o) e)
+lent_long o m e room = omega (arith, length-take-le (length e - o) (drop o e) (omega (arith, length-drop o e)), length-drop o e)
+
 -- a stretch of zeros, in a part that was lent to the room's end and came home cleared
 pub zeros_home : (o m : ℕ) (e part : List Float) → o + m ≤ length e → part ≡ cleared m (of_bits binary64 0) (mid_of o (length e - o) e)
     → Stretch (λ i. +0) o m e (put_mid o (length e - o) e part)
