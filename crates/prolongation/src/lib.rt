@@ -22,7 +22,11 @@ fn two_at(room: &[f64], rows: RowPair, i: usize) -> f64
     let row = &room[rows.from..rows.from + rows.cells];
     let lower = (i + 1) / 2;
     let even = i % 2 == 0;
-    let (below, above) = if even { (rows.far, rows.near) } else { (rows.near, rows.far) };
+    let (below, above) = if even {
+        (rows.far, rows.near)
+    } else {
+        (rows.near, rows.far)
+    };
     let sum = transfer::rows::add_cell(row, lower, below, room[rows.to + i]);
     transfer::rows::add_cell(row, lower + 1, above, sum)
 }
@@ -90,7 +94,14 @@ fn give_coarse(
         let k = drawn_as(z, r / 2);
         let far = transfer::weights::weight(0, j, k);
         let near = transfer::weights::weight(1, j, k);
-        let rows = RowPair { from: from + at, cells: h.nx as usize, to: o, sums: m, far, near };
+        let rows = RowPair {
+            from: from + at,
+            cells: h.nx as usize,
+            to: o,
+            sums: m,
+            far,
+            near,
+        };
         give_row(room, rows);
     }
 }

@@ -8,7 +8,7 @@ use native.Mathlib.Omega.{arith}
 use borrow.Author.Rules.{rules}
 use borrow.Author.Tests.{eq-eqb, ne_eqb, lt-ltb, le-ltb, le-leb, lt-leb}
 use lib.Dec.{ltb}
-use lib.ListN.{length, get_or, set, take, drop, length-drop}
+use lib.ListN.{length, get_or, set, take, drop, length-drop, length-set}
 use lib.Seq.{length-take-le}
 use lib.Ieee.{Float, nan}
 use Rattle.laws.specs.Binary64.{◌⊕◌, ◌⊗◌}
@@ -59,20 +59,21 @@ module _ (row : List Float) (w v : Float) (i : ℕ) (a : Float) where
       (cell_at row (2 * i + 1) (2 * i + 2) v _ (omega arith) (omega arith))
       (cell_at row (2 * i + 2) (2 * i + 3) w _ (omega arith) (omega arith))
 
--- the same of a part of the room, as the code borrows it
-module _ (r : List Float) (f n : ℕ) (w v : Float) (i : ℕ) (a : Float) where
-  as_lent : take (f + n - f) (drop f r) ≡ take n (drop f r)
-  as_lent = let long : f + n - f ≡ n = omega arith in ap (λ k. take k (drop f r)) long
+-- a part of the room, as the code borrows it
+pub as_lent : (r : List Float) (f n : ℕ) → take (f + n - f) (drop f r) ≡ take n (drop f r)
+as_lent r f n = let long : f + n - f ≡ n = omega arith in ap (λ k. take k (drop f r)) long
 
+-- the four of such a part
+module _ (r : List Float) (f n : ℕ) (w v : Float) (i : ℕ) (a : Float) where
   pub part_four : (b c d e : Float) → b ≡ row_term (take (f + n - f) (drop f r)) (2 * i) w a → c ≡ row_term (take (f + n - f) (drop f r)) (2 * i + 1) v b
       → d ≡ row_term (take (f + n - f) (drop f r)) (2 * i + 2) v c → e ≡ row_term (take (f + n - f) (drop f r)) (2 * i + 3) w d
       → e ≡ four (take n (drop f r)) w v i a
-  part_four b c d e p q s t = four_is _ w v i a b c d e p q s t ∙ ap (λ k. four k w v i a) as_lent
+  part_four b c d e p q s t = four_is _ w v i a b c d e p q s t ∙ ap (λ k. four k w v i a) (as_lent r f n)
 
   pub inside_is : f + n ≤ length r → 0 < i → 2 * i + 3 ≤ n
       → a ⊕ w ⊗ get_or (take (f + n - f) (drop f r)) (2 * i - 1) nan ⊕ v ⊗ get_or (take (f + n - f) (drop f r)) (2 * i) nan
       ⊕ v ⊗ get_or (take (f + n - f) (drop f r)) (2 * i + 1) nan ⊕ w ⊗ get_or (take (f + n - f) (drop f r)) (2 * i + 2) nan ≡ four (take n (drop f r)) w v i a
-  inside_is l h m = four_inside _ w v i a h (omega (arith, length-take-le (f + n - f) (drop f r) (omega (arith, length-drop f r)))) ∙ ap (λ k. four k w v i a) as_lent
+  inside_is l h m = four_inside _ w v i a h (omega (arith, length-take-le (f + n - f) (drop f r) (omega (arith, length-drop f r)))) ∙ ap (λ k. four k w v i a) (as_lent r f n)
 
 -- ---- the two
 module _ (row : List Float) (w v : Float) (i : ℕ) (a : Float) where
@@ -87,6 +88,19 @@ module _ (row : List Float) (w v : Float) (i : ℕ) (a : Float) where
   two_odd b c h p q =
       q ∙ ap (row_term row ((i + 1) / 2 + 1) w) p
       ∙ ap (λ t. row_term row ((i + 1) / 2 + 1) (cond t v w) (row_term row ((i + 1) / 2) (cond t w v) a)) (sym (ne_eqb (i % 2) 0 h))
+
+-- the same of a part of the room, under the weights of the lower and the upper cell
+module _ (r : List Float) (f n : ℕ) (w v : Float) (i : ℕ) (a b c : Float) (q : Float × Float)
+    (below : b ≡ row_term (take (f + n - f) (drop f r)) ((i + 1) / 2) q.0 a) (above : c ≡ row_term (take (f + n - f) (drop f r)) ((i + 1) / 2 + 1) q.1 b) where
+  pub part_even : i % 2 ≡ 0 → q ≡ (w, v) → c ≡ two (take n (drop f r)) w v i a
+  part_even h e =
+      two_even _ w v i a b c h (below ∙ ap (λ q. row_term (take (f + n - f) (drop f r)) ((i + 1) / 2) q.0 a) e) (above ∙ ap (λ q. row_term (take (f + n - f) (drop f r)) ((i + 1) / 2 + 1) q.1 b) e)
+      ∙ ap (λ k. two k w v i a) (as_lent r f n)
+
+  pub part_odd : (i % 2 ≡ 0 → ⊥) → q ≡ (v, w) → c ≡ two (take n (drop f r)) w v i a
+  part_odd h e =
+      two_odd _ w v i a b c h (below ∙ ap (λ q. row_term (take (f + n - f) (drop f r)) ((i + 1) / 2) q.0 a) e) (above ∙ ap (λ q. row_term (take (f + n - f) (drop f r)) ((i + 1) / 2 + 1) q.1 b) e)
+      ∙ ap (λ k. two k w v i a) (as_lent r f n)
 
 module _ (row : List Float) (w v : Float) (j : ℕ) (a : Float) (l : j + 1 < length row) where
   pub odd_inside : a ⊕ v ⊗ get_or row j nan ⊕ w ⊗ get_or row (j + 1) nan ≡ two row w v (2 * j + 1) a
@@ -116,12 +130,24 @@ module _ (share : Share) (f n o : ℕ) (w v : Float) (e s : List Float) where
   pub row_last : (t : List Float) (i l m : ℕ) → Up (row_step share f n o w v) e i s → i ≡ l → l + 1 ≡ m → t ≡ row_step share f n o w v l s → t ≡ up (row_step share f n o w v) m e
   row_last t i l m u k j q = q ∙ ap (λ i. row_step share f n o w v i s) (sym k) ∙ (up_more u refl).is ∙ ap (λ k. up (row_step share f n o w v) (k + 1) e) k ∙ ap (λ k. up (row_step share f n o w v) k e) j
 
--- the two fine cells between a coarse cell and the next
+-- the two fine cells between a coarse cell and the next: what the code adds to each, the row as it borrows it
 module _ (f n o j : ℕ) (w v : Float) where
-  pub pair_is : (e a b : List Float) → a ≡ row_step two f n o w v (2 * j + 1) e → b ≡ row_step two f n o w v (2 * j + 1 + 1) a → b ≡ pair_step f n o w v j e
-  pair_is e a b p q =
-      let k : 2 * j + 1 + 1 ≡ 2 * j + 2 = omega arith in
-      q ∙ ap (row_step two f n o w v (2 * j + 1 + 1)) p ∙ ap (λ i. row_step two f n o w v i (row_step two f n o w v (2 * j + 1) e)) k
+  pub pair_is : (e : List Float) (x y : Float) → o + (2 * j + 2) < length e → f + n ≤ length e → j + 1 < n
+      → x ≡ value e (o + (2 * j + 1)) ⊕ v ⊗ value (take (f + n - f) (drop f e)) j ⊕ w ⊗ value (take (f + n - f) (drop f e)) (j + 1)
+      → y ≡ value (set e (o + (2 * j + 1)) x) (o + (2 * j + 1) + 1)
+      ⊕ w ⊗ value (take (f + n - f) (drop f (set e (o + (2 * j + 1)) x))) j ⊕ v ⊗ value (take (f + n - f) (drop f (set e (o + (2 * j + 1)) x))) (j + 1)
+      → set (set e (o + (2 * j + 1)) x) (o + (2 * j + 1) + 1) y ≡ pair_step f n o w v j e
+  pair_is e x y l inside few p q =
+      let a : List Float = set e (o + (2 * j + 1)) x in
+      let place : o + (2 * j + 1) + 1 ≡ o + (2 * j + 2) = omega arith in
+      let long : (s : List Float) → length s ≡ length e → j + 1 < length (take (f + n - f) (drop f s)) =
+      λ s k. omega (arith, length-take-le (f + n - f) (drop f s) (omega (arith, length-drop f s))) in
+      let first : a ≡ row_step two f n o w v (2 * j + 1) e =
+      ap (set e (o + (2 * j + 1))) (p ∙ odd_inside _ w v j _ (long e refl) ∙ ap (λ k. two k w v (2 * j + 1) (value e (o + (2 * j + 1)))) (as_lent e f n)) in
+      let sum : y ≡ two (take n (drop f a)) w v (2 * j + 2) (value a (o + (2 * j + 1) + 1)) =
+      q ∙ even_inside _ w v j _ (long a (length-set e (o + (2 * j + 1)) x)) ∙ ap (λ k. two k w v (2 * j + 2) (value a (o + (2 * j + 1) + 1))) (as_lent a f n) in
+      ap (set a (o + (2 * j + 1) + 1)) sum ∙ ap (λ i. set a i (two (take n (drop f a)) w v (2 * j + 2) (value a i))) place
+      ∙ ap (row_step two f n o w v (2 * j + 2)) first
 
   pub pair_more : (e s t : List Float) → Up (row_step two f n o w v) e (2 * j + 1) s → t ≡ pair_step f n o w v j s → Up (row_step two f n o w v) e (2 * (j + 1) + 1) t
   pair_more e s t u q =
