@@ -2,7 +2,7 @@
 // element a cell each, and what follows. Openings count as zero.
 #![tactic(auto)]
 
-ghost use Rattle.std.specs.Prelude.{◌≡◌, ◌++◌, ◌*◌, ◌≤◌, length, take, drop};
+ghost use Rattle.std.specs.Prelude.{◌≡◌, ◌++◌, ◌-◌, ◌*◌, ◌≤◌, ◌<◌, length, take, drop};
 ghost use Rattle.method.specs.Cast.{cells};
 ghost use Rattle.method.specs.Cycle.{zeros};
 ghost use Rattle.theory.specs.Sides.{Fit};
@@ -21,6 +21,24 @@ pub struct Lattice {
     pub plane: usize,
     // where the zero stands that is read for a neighbour that is no air
     pub zero: usize,
+}
+
+impl Lattice {
+    // Of a box with these sides and n cells, in a room of that length whose last element is the zero.
+    pub fn of(g: method::Sides, n: usize, length: usize) -> Lattice
+        requires fit { Fit g }
+        requires some { 0 < length }
+        ensures { result ≡ record { n = n; nx = g.nx; plane = g.nx * g.ny; zero = length - 1 } }
+    {
+        let nx = g.nx as usize;
+        let plane = nx * (g.ny as usize);
+        Lattice {
+            n,
+            nx,
+            plane,
+            zero: length - 1,
+        }
+    }
 }
 
 // The old u goes to t.
