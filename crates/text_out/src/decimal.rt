@@ -7,13 +7,7 @@ ghost use Rattle.text_out.specs.Puts.{Put, DigitsOf};
 pub fn digits_of(n: u64) -> usize
     ensures { DigitsOf n result }
 {
-    let mut k = 1;
-    let mut rest = n;
-    while 10 <= rest {
-        rest = rest / 10;
-        k += 1;
-    }
-    k
+    1 + n.checked_ilog10().unwrap_or(0) as usize
 }
 
 // Puts one digit at a place, and answers the place after it.

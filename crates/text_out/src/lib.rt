@@ -15,12 +15,9 @@ pub fn put_bytes(output: &mut [u8], at: usize, bytes: &[u8]) -> usize
     requires { at + length bytes.now ≤ length output.old }
     ensures { Put bytes.now output.old at output.new result }
 {
-    let mut i = 0;
-    while i < bytes.len() {
-        output[at + i] = bytes[i];
-        i += 1;
-    }
-    at + bytes.len()
+    let after = at + bytes.len();
+    output[at..after].copy_from_slice(bytes);
+    after
 }
 
 // Puts a key, a number and an end.

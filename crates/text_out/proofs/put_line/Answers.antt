@@ -5,8 +5,5 @@ use Rattle.text_out.proofs.put_line.Goals as goal
 pub put_number-requires : goal.put_number-requires
 put_number-requires c = search lines
 
-pub shape_of-output : goal.shape_of-output
-shape_of-output c = search lines
-
 pub returns : goal.returns
 returns c = search lines
