@@ -65,25 +65,25 @@ digits_counted n (Some k) f z l m =
 pub ruleset countings = (rules, digits_counted)
 
 -- ---- a number put, its last digit last
-pub put_small : (n : ℕ) (a b : List ℕ) (i j : ℕ) → n < 10 → Put ((48 + n) ∷ []) a i b j → Put (decimal n) a i b j
-put_small n a b i j h p = rw (decimal_short n h) p
+pub put_small : (n : ℕ) (a b : List ℕ) (i j : ℕ) → n < 10 → Put ((48 + n % 10) ∷ []) a i b j → Put (decimal n) a i b j
+put_small n a b i j h p = rw (decimal_short n h, ap (λ d. (48 + d) ∷ []) (small n h)) p
+  where
+    small : (n : ℕ) → n < 10 → n ≡ n % 10
+    small n h = omega arith
 
 pub put_large : (n : ℕ) (a b c : List ℕ) (i j k : ℕ) → 10 ≤ n → Put (decimal (n / 10)) a i b j → Put ((48 + n % 10) ∷ []) b j c k → Put (decimal n) a i c k
 put_large n a b c i j k h p q = rw (decimal_large n h) (put_then p q)
 
-pub small_room : (n i m : ℕ) → n < 10 → i + length (decimal n) ≤ m → i < m
+pub small_room : (n i m : ℕ) → n < 10 → i + length (decimal n) ≤ m → i + 1 ≤ m
 small_room n i m h r = omega (arith, length_small n h)
 
 pub large_room_lem : (n i m : ℕ) → 10 ≤ n → i + length (decimal n) ≤ m → i + length (decimal (n / 10)) ≤ m
 large_room_lem n i m h r = omega (arith, length_large n h)
 
-pub last_room : (n : ℕ) (a b : List ℕ) (i j : ℕ) → 10 ≤ n → i + length (decimal n) ≤ length a → Put (decimal (n / 10)) a i b j → j < length b
+pub last_room : (n : ℕ) (a b : List ℕ) (i j : ℕ) → 10 ≤ n → i + length (decimal n) ≤ length a → Put (decimal (n / 10)) a i b j → j + 1 ≤ length b
 last_room n a b i j h r p = omega (arith, length_large n h, p.next, put_length p)
-
-pub last_digit_lem : (n : ℕ) → n % 10 < 10
-last_digit_lem n = mod-lt n (omega arith)
 
 pub falls : (n t : ℕ) → 10 ≤ n → n ≡ t → n / 10 < t
 falls n t h e = omega arith
 
-pub ruleset decimals = (rules, put_small, put_large, small_room, large_room_lem, last_room, last_digit_lem, falls)
+pub ruleset decimals = (rules, put_small, put_large, small_room, large_room_lem, last_room, falls)

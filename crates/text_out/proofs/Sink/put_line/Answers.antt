@@ -1,6 +1,6 @@
--- `text_out::put_line` meets its contract. Assumes nothing.
+-- `text_out::Sink::put_line` meets its contract. Assumes nothing.
 use Rattle.text_out.proofs.PutLaws.{lines}
-use Rattle.text_out.proofs.put_line.Goals as goal
+use Rattle.text_out.proofs.Sink.put_line.Goals as goal
 
 pub put_number-requires : goal.put_number-requires
 put_number-requires c = search lines
