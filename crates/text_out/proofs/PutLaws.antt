@@ -46,6 +46,10 @@ copied bytes old new at k r e w = record {
 
 pub ruleset copies = (rules, copied)
 
+-- what was lent comes back: it holds what the sink holds that still has it
+pub comes_back : {N : Type 0} {n m : N} {bytes old x y : List ℕ} {i j : ℕ} → m ≡ n → Put bytes old i y j → (n ≡ m → x ≡ y) → Put bytes old i x j
+comes_back same p back = rw (back (sym same)) p
+
 -- ---- three parts, one after the other
 module _ (xs ys zs a : List ℕ) (i : ℕ) (r : i + length (xs ++ ys ++ zs) ≤ length a) where
   both : i + length (xs ++ ys) ≤ length a
