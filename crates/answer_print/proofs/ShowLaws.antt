@@ -68,9 +68,6 @@ module _ (p : ℤ) (f : SFits w64 p) (n : ℕ) (e : n ≡ nat_abs (to_z w64 (of_
           short = omega (arith, q.next, line_length key n, few);
         }
 
-pub cell_put : (p : ℤ) → SFits w64 p → (w u : List ℕ) (i j : ℕ) → PutShort 26 (line (text "cell=") (whole (to_z w64 (of_z w64 p)))) w i u j → PutShort 26 (cell_line p) w i u j
-cell_put p f w u i j q = rw (to_z-of_z f) at q
-
 pub ruleset signs = (rules, whole_room, minus_room, minus_put, plain_put)
 
 -- ---- the lines of an answer

@@ -40,17 +40,14 @@ fn put_header(sink: &mut Sink<'_>, sides: Sides, order: Order, settings: Setting
 {
     put_three(sink, b"nx=", sides.nx, b"ny=", sides.ny, b"nz=", sides.nz);
     put_order(sink, order);
-    let tolerance = settings.tolerance;
-    let levels = settings.levels;
-    let rounds = settings.rounds;
     put_three(
         sink,
         b"tolerance=",
-        tolerance,
+        settings.tolerance,
         b"levels=",
-        levels,
+        settings.levels,
         b"rounds=",
-        rounds,
+        settings.rounds,
     );
 }
 
