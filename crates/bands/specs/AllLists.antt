@@ -1,6 +1,6 @@
 -- The lists of all levels in one room: for each level all its air, the band first; for the last one in the order in
 -- which it is swept.
-use Rattle.std.specs.Prelude.{ℕ, zero, suc, ◌+◌, ◌<◌, ◌≤◌, ◌≡◌, List, [], ◌++◌, ltb, length, take, drop}
+use Rattle.std.specs.Prelude.{ℕ, zero, suc, ◌+◌, ◌<◌, ◌≤◌, ◌≡◌, List, [], ◌++◌, ltb, length, get_or, take, drop}
 use Rattle.method.specs.declared.Sides.{Sides}
 use Rattle.method.specs.Cast.{cells, interior}
 use Rattle.method.specs.Rooms.{byte_need}
@@ -39,6 +39,10 @@ list_row g ls count j = record {
 -- the lists of the first k levels, 0 for the others
 abbrev pub no_list : LevelList
 no_list = record { start = 0; swept = 0; air = 0 }
+
+-- of six lists, what is read of level k's; 0 beyond the sixth
+abbrev pub row_in : Lists → ℕ → LevelList
+row_in s k = get_or s k no_list
 
 unfoldable pub lists_to : Sides → List ℕ → ℕ → ℕ → Lists
 lists_to g ls count k = firsts no_list (list_row g ls count) k

@@ -22,13 +22,12 @@ use Rattle.theory.specs.Levels.{sides_at, labels_at, air_before}
 use Rattle.theory.specs.Sides.{Fit}
 use Rattle.theory.proofs.Sides.{fits}
 use Rattle.theory.proofs.Sizes.{cells_of_six}
-use Rattle.levels.specs.declared.sides.Levels.{Levels}
-use Rattle.bands.specs.declared.lists.Lists.{Lists}
 use Rattle.levels.specs.Rooms.{written}
-use Rattle.levels.specs.Levels.{base}
+use Rattle.bands.specs.declared.lists.LevelList.{LevelList}
+use Rattle.levels.specs.Levels.{base, firsts, Levels}
 use Rattle.bands.specs.Lists.{list_of, left_of}
 use Rattle.levels.specs.AllLabels.{LabelsAsked, all_labels}
-use Rattle.bands.specs.AllLists.{base_labels, list_at, air_at, lists_before, firsts, lists_to, AllListed, ListsAsked}
+use Rattle.bands.specs.AllLists.{base_labels, list_at, air_at, lists_before, list_row, no_list, lists_to, AllListed, ListsAsked, Lists, row_in}
 use Rattle.levels.proofs.Calls.{part_left}
 use Rattle.bands.proofs.Calls.{lists_asked}
 use Rattle.levels.proofs.Labelled.{room_enough}
@@ -79,25 +78,29 @@ module _ (g : Sides) (ls : List ℕ) (count : ℕ) where
       (eq-or-lt_of_le (le_of_suc-le-suc h))
 
 -- ---- the table of starts and lengths
-first_at : (f : ℕ → ℕ) (count k : ℕ) → count ≤ 6 → k < count → get_or (firsts f count) k 0 ≡ f k
+first_at : {A : Type 0} (z : A) (f : ℕ → A) (count k : ℕ) → count ≤ 6 → k < count → get_or (firsts z f count) k z ≡ f k
 unfolding firsts
-first_at f count k six h =
-    get_or_tab 6 (λ j. cond (ltb j count) (f j) 0) k 0 (omega arith) ∙ ap (λ b. cond b (f k) 0) (lt-ltb k count h)
+first_at z f count k six h =
+    get_or_tab 6 (λ j. cond (ltb j count) (f j) z) k z (omega arith) ∙ ap (λ b. cond b (f k) z) (lt-ltb k count h)
 
 -- ---- THE ROOMS ARE PREPARED
 module _ (l : Levels) (count : ℕ) (bytes e words : List ℕ) (s : Lists) (a : ListsAsked l count bytes (length e)) (least : 1 ≤ count)
     (long : length words ≡ length e) (p : AllListed (base l) (base_labels l bytes) count e s words) where
-  start_at : (k : ℕ) → k < count → get_or s.start k 0 ≡ length (lists_before (base l) (base_labels l bytes) count k)
+  row_at : (k : ℕ) → k < count → row_in s k ≡ list_row (base l) (base_labels l bytes) count k
   unfolding lists_to
-  start_at k h = ap (λ (t : Lists). get_or t.start k 0) p.lists ∙ first_at (λ j. length (lists_before (base l) (base_labels l bytes) count j)) count k a.most h
+  row_at k h = ap (λ (t : Lists). row_in t k) p.lists ∙ first_at no_list (list_row (base l) (base_labels l bytes) count) count k a.most h
 
-  count_at : (k : ℕ) → k < count → get_or s.count k 0 ≡ length (list_at (base l) (base_labels l bytes) count k)
-  unfolding lists_to
-  count_at k h = ap (λ (t : Lists). get_or t.count k 0) p.lists ∙ first_at (λ j. length (list_at (base l) (base_labels l bytes) count j)) count k a.most h
+  start_at : (k : ℕ) → k < count → (row_in s k).start ≡ length (lists_before (base l) (base_labels l bytes) count k)
+  unfolding list_row
+  start_at k h = ap (λ (r : LevelList). r.start) (row_at k h)
 
-  air_at_lem : (k : ℕ) → k < count → get_or s.air k 0 ≡ length (air_at (base l) (base_labels l bytes) count k)
-  unfolding lists_to
-  air_at_lem k h = ap (λ (t : Lists). get_or t.air k 0) p.lists ∙ first_at (λ j. length (air_at (base l) (base_labels l bytes) count j)) count k a.most h
+  count_at : (k : ℕ) → k < count → (row_in s k).swept ≡ length (list_at (base l) (base_labels l bytes) count k)
+  unfolding list_row
+  count_at k h = ap (λ (r : LevelList). r.swept) (row_at k h)
+
+  air_at_lem : (k : ℕ) → k < count → (row_in s k).air ≡ length (air_at (base l) (base_labels l bytes) count k)
+  unfolding list_row
+  air_at_lem k h = ap (λ (r : LevelList). r.air) (row_at k h)
 
   words_are : words ≡ lists_before (base l) (base_labels l bytes) count count ++ drop (0 + length (lists_before (base l) (base_labels l bytes) count count)) e
   unfolding written
@@ -110,7 +113,7 @@ module _ (l : Levels) (count : ℕ) (bytes e words : List ℕ) (s : Lists) (a : 
     length-append (lists_before (base l) (base_labels l bytes) count count) (drop (0 + length (lists_before (base l) (base_labels l bytes) count count)) e),
   )
 
-  air_part : (k : ℕ) → k < count → take (length (air_at (base l) (base_labels l bytes) count k)) (drop (get_or s.start k 0) words) ≡ air_at (base l) (base_labels l bytes) count k
+  air_part : (k : ℕ) → k < count → take (length (air_at (base l) (base_labels l bytes) count k)) (drop ((row_in s k).start) words) ≡ air_at (base l) (base_labels l bytes) count k
   air_part k h =
       ap (λ b. take (length (air_at (base l) (base_labels l bytes) count k)) (drop b words)) (start_at k h)
       ∙ ap (λ x. take (length (air_at (base l) (base_labels l bytes) count k)) (drop (length (lists_before (base l) (base_labels l bytes) count k)) x)) words_are
@@ -118,9 +121,9 @@ module _ (l : Levels) (count : ℕ) (bytes e words : List ℕ) (s : Lists) (a : 
       (length (lists_before (base l) (base_labels l bytes) count k)) (length (air_at (base l) (base_labels l bytes) count k)) (lists_inside (base l) (base_labels l bytes) count count k h)
       ∙ list_part (base l) (base_labels l bytes) count count k h
 
-  swept_part : (k : ℕ) → k < count → take (length (list_at (base l) (base_labels l bytes) count k)) (drop (get_or s.start k 0) words) ≡ list_at (base l) (base_labels l bytes) count k
+  swept_part : (k : ℕ) → k < count → take (length (list_at (base l) (base_labels l bytes) count k)) (drop ((row_in s k).start) words) ≡ list_at (base l) (base_labels l bytes) count k
   swept_part k h =
-      sym (take-take (length (list_at (base l) (base_labels l bytes) count k)) (length (air_at (base l) (base_labels l bytes) count k)) (drop (get_or s.start k 0) words) (swept_within (base l) (base_labels l bytes) count k))
+      sym (take-take (length (list_at (base l) (base_labels l bytes) count k)) (length (air_at (base l) (base_labels l bytes) count k)) (drop ((row_in s k).start) words) (swept_within (base l) (base_labels l bytes) count k))
       ∙ ap (take (length (list_at (base l) (base_labels l bytes) count k))) (air_part k h) ∙ swept_first (base l) (base_labels l bytes) count k
 
   pub prepared : Prepared l s count bytes words
@@ -134,8 +137,8 @@ module _ (l : Levels) (count : ℕ) (bytes e words : List ℕ) (s : Lists) (a : 
     labels = a.labels;
     ends = λ k h. omega (arith, start_at k h, air_at_lem k h, lists_inside (base l) (base_labels l bytes) count count k h, words_long);
     within = λ k h. omega (arith, count_at k h, air_at_lem k h, swept_within (base l) (base_labels l bytes) count k);
-    lists = λ k h. ap (λ n. take n (drop (get_or s.start k 0) words)) (count_at k h) ∙ swept_part k h;
-    air = λ k h. ap (λ n. take n (drop (get_or s.start k 0) words)) (air_at_lem k h) ∙ air_part k h;
+    lists = λ k h. ap (λ n. take n (drop ((row_in s k).start) words)) (count_at k h) ∙ swept_part k h;
+    air = λ k h. ap (λ n. take n (drop ((row_in s k).start) words)) (air_at_lem k h) ∙ air_part k h;
   }
 
 -- the same from the labels as `all_labels` was given and left them

@@ -165,8 +165,8 @@ fn level_labels(bytes: &[u8], l: Levels, k: usize) -> &[u8]
     requires { LabelsAt l k (length bytes.now) }
     ensures { result.now ≡ part_in l k bytes.now }
 {
-    let from = l.start[k];
-    let to = from + grid::place::cell_count(levels::sides::sides_at(l, k));
+    let from = l[k].start;
+    let to = from + grid::place::cell_count(l[k].sides);
     &bytes[from..to]
 }
 
@@ -175,8 +175,8 @@ fn level_list(words: &[u32], s: Lists, k: usize) -> &[u32]
     requires { ListAt s k (length words.now) }
     ensures { result.now ≡ list_from s k words.now }
 {
-    let from = s.start[k];
-    let to = from + s.count[k];
+    let from = s[k].start;
+    let to = from + s[k].swept;
     &words[from..to]
 }
 
@@ -185,8 +185,8 @@ pub fn level_air(words: &[u32], s: Lists, k: usize) -> &[u32]
     requires { AirAt s k (length words.now) }
     ensures { result.now ≡ air_from s k words.now }
 {
-    let from = s.start[k];
-    let to = from + s.air[k];
+    let from = s[k].start;
+    let to = from + s[k].air;
     &words[from..to]
 }
 

@@ -25,12 +25,10 @@ use Rattle.theory.proofs.Sides.{fit, fits}
 use Rattle.theory.proofs.Sizes.{cells_of_six}
 use Rattle.theory.proofs.Counting.{counted_le}
 use Rattle.grid.proofs.Steps.{cells_most}
-use Rattle.levels.specs.declared.sides.Levels.{Levels}
-use Rattle.bands.specs.declared.lists.Lists.{Lists}
 use Rattle.levels.specs.Rooms.{written}
-use Rattle.levels.specs.Levels.{levels_of, base}
+use Rattle.levels.specs.Levels.{levels_of, base, Levels}
 use Rattle.levels.specs.AllLabels.{LabelsAsked, all_labels}
-use Rattle.bands.specs.AllLists.{base_labels, AllListed, ListsAsked}
+use Rattle.bands.specs.AllLists.{base_labels, AllListed, ListsAsked, Lists}
 use Rattle.levels.proofs.Calls.{base_is, labels_asked}
 use Rattle.bands.proofs.Calls.{base_labels_lem, lists_asked}
 use Rattle.smooth.specs.Fields.{u_of, b_of}
