@@ -58,16 +58,12 @@ fn first_child(g: Sides, n: usize, s: Spot) -> usize
     let x = 2 * s.x;
     let y = 2 * s.y;
     let z = 2 * s.z;
-    if (g.nx as usize) <= x + 1 {
-        return n;
+    let whole = x + 1 < (g.nx as usize) && y + 1 < (g.ny as usize) && z + 1 < (g.nz as usize);
+    if whole {
+        grid::place::number_of(g, x, y, z)
+    } else {
+        n
     }
-    if (g.ny as usize) <= y + 1 {
-        return n;
-    }
-    if (g.nz as usize) <= z + 1 {
-        return n;
-    }
-    grid::place::number_of(g, x, y, z)
 }
 
 // How far the t-th child is from the first.
@@ -117,25 +113,13 @@ fn corner(g: Sides, n: usize, s: Spot) -> usize
     let x = (s.x + 1) / 2;
     let y = (s.y + 1) / 2;
     let z = (s.z + 1) / 2;
-    if x < 1 {
-        return n;
+    let begun = 0 < x && 0 < y && 0 < z;
+    let ended = 2 * x + 1 < (g.nx as usize) && 2 * y + 1 < (g.ny as usize) && 2 * z + 1 < (g.nz as usize);
+    if begun && ended {
+        grid::place::number_of(g, 2 * (x - 1), 2 * (y - 1), 2 * (z - 1))
+    } else {
+        n
     }
-    if (g.nx as usize) <= 2 * x + 1 {
-        return n;
-    }
-    if y < 1 {
-        return n;
-    }
-    if (g.ny as usize) <= 2 * y + 1 {
-        return n;
-    }
-    if z < 1 {
-        return n;
-    }
-    if (g.nz as usize) <= 2 * z + 1 {
-        return n;
-    }
-    grid::place::number_of(g, 2 * (x - 1), 2 * (y - 1), 2 * (z - 1))
 }
 
 // Whether the t-th child of the q-th coarse cell isn't air, all of them in the box, the first of the first at `first`.
