@@ -151,7 +151,7 @@ module _ (g : Sides) (s : Spot) where
   abbrev Z : ℕ
   Z = (s.z + 1) / 2
 
-  module _ (h : Sides) (first labels : ℕ) (a : BlockAsked g h s first labels) where
+  module _ (first labels : ℕ) (a : BlockAsked g s first labels) where
     all_in : block_in g s ≡ true
     unfolding corner_of
     all_in = taken (block_in g s) (number g (2 * (X - 1)) (2 * (Y - 1)) (2 * (Z - 1))) (cells g) (rw (← a.is) a.inside)
@@ -204,9 +204,9 @@ module _ (g : Sides) (s : Spot) where
         omega (arith, n, block_number q t, a.full)
 
     -- the q-th coarse cell is in its box
-    halves_in : (q : ℕ) → parent_at (halved g) s q < cells (halved g)
+    pub block_parent : (q : ℕ) → parent_at (halved g) s q < cells (halved g)
     unfolding parent_at halved half
-    halves_in q =
+    block_parent q =
         let x = axis_half ((s.x + 1) / 2) q g.nx in_x.low in_x.high in
         let y = axis_half ((s.y + 1) / 2) (q / 2) g.ny in_y.low in_y.high in
         let z = axis_half ((s.z + 1) / 2) (q / 2 / 2) g.nz in_z.low in_z.high in
@@ -215,9 +215,6 @@ module _ (g : Sides) (s : Spot) where
       where
         below : (a b : ℕ) → 0 < a → a ≤ b → a - 1 < b
         below a b l h = omega arith
-
-    pub block_parent : (q : ℕ) → parent_at h s q < cells h
-    block_parent q = rw a.next (halves_in q)
 
 -- the products and sums of the step
 module _ (a b t : ℕ) (h : a ≤ 32) (k : b ≤ 32) where
