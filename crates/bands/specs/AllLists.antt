@@ -1,6 +1,6 @@
 -- The lists of all levels in one room: for each level all its air, the band first; for the last one in the order in
 -- which it is swept.
-use Rattle.std.specs.Prelude.{ℕ, zero, suc, ◌+◌, ◌<◌, ◌≤◌, ◌≡◌, List, [], ◌++◌, ltb, length, take, drop}
+use Rattle.std.specs.Prelude.{ℕ, zero, suc, ◌+◌, ◌<◌, ◌≤◌, ◌≡◌, List, [], ◌++◌, ltb, length, get_or, take, drop}
 use Rattle.method.specs.declared.Sides.{Sides}
 use Rattle.method.specs.Cast.{cells, interior}
 use Rattle.method.specs.Rooms.{byte_need}
@@ -42,6 +42,16 @@ no_list = record { start = 0; swept = 0; air = 0 }
 
 unfoldable pub lists_to : Sides → List ℕ → ℕ → ℕ → Lists
 lists_to g ls count k = firsts no_list (list_row g ls count) k
+
+-- of six lists, what is read of level k's; 0 beyond the sixth
+abbrev pub list_start : Lists → ℕ → ℕ
+list_start s k = (get_or s k no_list).start
+
+abbrev pub list_swept : Lists → ℕ → ℕ
+list_swept s k = (get_or s k no_list).swept
+
+abbrev pub list_air : Lists → ℕ → ℕ
+list_air s k = (get_or s k no_list).air
 
 -- what count levels' lists leave in the room e, and what comes back of them
 pub record AllListed (g : Sides) (ls : List ℕ) (count : ℕ) (e : List ℕ) (r : Lists) (s : List ℕ) : Type 0 where
