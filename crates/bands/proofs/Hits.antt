@@ -54,13 +54,18 @@ band_no g ls c l e h = sym (no_air g ls c (λ f. h (e ∙ f)))
 pub band_asked_around : (g h : Sides) (n m c : ℕ) (s : Spot) → BandAsked g h n m c → SpotOf g c s → AroundAsked g h n m s
 band_asked_around g h n m c s a p = record { fine = a.fine; next = a.next; count = a.count; coarse_count = a.coarse_count; near = spot_near g c s a.fine p }
 
-pub band_asked_block : (g h : Sides) (n m c first labels : ℕ) (s : Spot) → BandAsked g h n m c → first ≡ corner_of g s → first < n → n ≤ labels → BlockAsked g h s first labels
-band_asked_block g h n m c first labels s a e l k = record { fine = a.fine; next = a.next; is = e; inside = omega (arith, a.count); full = omega (arith, a.count) }
+pub band_asked_block : (g h : Sides) (n m c first labels : ℕ) (s : Spot) → BandAsked g h n m c → first ≡ corner_of g s → first < n → n ≤ labels → BlockAsked g s first labels
+band_asked_block g h n m c first labels s a e l k = record { fine = a.fine; is = e; inside = omega (arith, a.count); full = omega (arith, a.count) }
 
 -- an air cell is in the band where some coarse cell that gives to it has a child that isn't air
 pub band_some : (g h : Sides) (n m c : ℕ) (s : Spot) (ls : List ℕ) (l : ℕ) (r : Bool) → BandAsked g h n m c → l ≡ label_at ls c → l ≡ 0 → SpotOf g c s
     → r ≡ some (parent_other ls g h s) 8 → r ≡ in_band g ls c
 band_some g h n m c s ls l r a f z w e = e ∙ sym (rw a.next (air g ls c s (sym f ∙ z) w))
+
+-- the same with the next level's sides written out
+pub band_block : (g : Sides) (c : ℕ) (s : Spot) (ls : List ℕ) (l : ℕ) (r : Bool) → l ≡ label_at ls c → l ≡ 0 → SpotOf g c s
+    → r ≡ some (parent_other ls g (halved g) s) 8 → r ≡ in_band g ls c
+band_block g c s ls l r f z w e = e ∙ sym (air g ls c s (sym f ∙ z) w)
 
 -- the q-th parent's children are asked one by one, where it is inside
 has_some : (g h : Sides) (ls : List ℕ) (d : ℕ) (k : Spot) → h ≡ halved g → d < cells h → SpotOf h d k → has_other g ls d ≡ some (child_other ls g k) 8
@@ -78,23 +83,23 @@ pub some_here : (p : ℕ → Bool) (q : ℕ) (r : Bool) → q < 8 → r ≡ p q 
 some_here p q r b e f = sym (some_hit p q 8 b (sym e ∙ f))
 
 -- ---- where the block around the cell is in the box
-module _ (g h : Sides) (s : Spot) (first labels : ℕ) (a : BlockAsked g h s first labels) (ls : List ℕ) (q : ℕ) where
-  block_some : parent_other ls g h s q ≡ some (child_other ls g (parent_spot s q)) 8
-  block_some = parent_some g h ls s q (parent_spot s q) a.next (block_parent g s h first labels a q) refl
+module _ (g : Sides) (s : Spot) (first labels : ℕ) (a : BlockAsked g s first labels) (ls : List ℕ) (q : ℕ) where
+  block_some : parent_other ls g (halved g) s q ≡ some (child_other ls g (parent_spot s q)) 8
+  block_some = parent_some g (halved g) ls s q (parent_spot s q) refl (block_parent g s first labels a q) refl
 
-  pub block_none : (t : ℕ) → None (child_other ls g (parent_spot s q)) t → t ≤ 8 → 8 ≤ t → false ≡ parent_other ls g h s q
+  pub block_none : (t : ℕ) → None (child_other ls g (parent_spot s q)) t → t ≤ 8 → 8 ≤ t → false ≡ parent_other ls g (halved g) s q
   block_none t i u v = sym (block_some ∙ none_end 8 i u v)
 
-  pub block_hit : (t : ℕ) (r : Bool) → t < 8 → r ≡ child_other ls g (parent_spot s q) t → r ≡ true → true ≡ parent_other ls g h s q
+  pub block_hit : (t : ℕ) (r : Bool) → t < 8 → r ≡ child_other ls g (parent_spot s q) t → r ≡ true → true ≡ parent_other ls g (halved g) s q
   block_hit t r b i j = sym (block_some ∙ some_hit (child_other ls g (parent_spot s q)) t 8 b (sym i ∙ j))
 
-pub block_other_is : (g h : Sides) (s : Spot) (first : ℕ) (ls : List ℕ) → BlockAsked g h s first (length ls) → (q t i j : ℕ) → i ≡ child_step g q → j ≡ child_step g t
+pub block_other_is : (g : Sides) (s : Spot) (first : ℕ) (ls : List ℕ) → BlockAsked g s first (length ls) → (q t i j : ℕ) → i ≡ child_step g q → j ≡ child_step g t
     → not (eqb (get_or ls (first + 2 * i + j) 0) 0) ≡ child_other ls g (parent_spot s q) t
-block_other_is g h s first ls a q t i j e f = rw (e, f) (other_is ls g (parent_spot s q) t (first + 2 * child_step g q + child_step g t) _ (block_child g s h first (length ls) a q t)
-    (label_in ls (first + 2 * child_step g q + child_step g t) (block_inside g s h first (length ls) a q t)))
+block_other_is g s first ls a q t i j e f = rw (e, f) (other_is ls g (parent_spot s q) t (first + 2 * child_step g q + child_step g t) _ (block_child g s first (length ls) a q t)
+    (label_in ls (first + 2 * child_step g q + child_step g t) (block_inside g s first (length ls) a q t)))
 
-pub block_at : (g h : Sides) (s : Spot) (first labels : ℕ) → BlockAsked g h s first labels → (q t i j : ℕ) → i ≡ child_step g q → j ≡ child_step g t → first + 2 * i + j < labels
-block_at g h s first labels a q t i j e f = rw (e, f) (block_inside g s h first labels a q t)
+pub block_at : (g : Sides) (s : Spot) (first labels : ℕ) → BlockAsked g s first labels → (q t i j : ℕ) → i ≡ child_step g q → j ≡ child_step g t → first + 2 * i + j < labels
+block_at g s first labels a q t i j e f = rw (e, f) (block_inside g s first labels a q t)
 
 pub ruleset on_blocks = (rules, none_none, none_more, some_none, some_here, block_none, block_hit, block_other_is, block_at)
 
@@ -120,4 +125,4 @@ module _ (g h : Sides) (n m : ℕ) (s : Spot) (a : AroundAsked g h n m s) (ls : 
 
 pub ruleset hits = (rules, none_none, none_more, other_is, coarse_fit, parent_begun, parent_near, some_none, some_here, around_outside, around_none, around_hit)
 
-pub ruleset in_bands = (rules, band_no, band_some, band_asked_around, band_asked_block, spot_near)
+pub ruleset in_bands = (rules, band_no, band_some, band_block, band_asked_around, band_asked_block, spot_near)

@@ -26,84 +26,55 @@ pub struct LevelList {
 // Six of them, 0 on levels that aren't used.
 pub type Lists = [LevelList; 6];
 
-// The entry of cell c of n is written to the next place if the cell is to be kept. The next place comes back.
-fn keep(
-    words: &mut [u32],
-    next: usize,
-    labels: &[u8],
-    g: Sides,
-    n: usize,
-    c: usize,
-    yes: bool,
-) -> usize
+// Kept: labels, g and band go from function to function. A struct of the three holds a `&`, so that each `ensures` would
+// have to write `l.entry.labels.now` for `labels.now`.
+
+// The entry of cell c is written to the next place if the cell is to be kept. The next place comes back.
+fn keep(words: &mut [u32], next: usize, labels: &[u8], g: Sides, c: usize, yes: bool) -> usize
     requires fit { Fit g }
-    requires n_value { (n ≡ cells g) × (c < cells g) × (next + length (kept yes c) ≤ length words.old) }
+    requires c_bound { (c < cells g) × (next + length (kept yes c) ≤ length words.old) }
     ensures { Placed (entry_of g labels.now) words.old next (kept yes c) result words.new }
 {
     if yes {
+        let n = grid::place::cell_count(g);
         words[next] = grid::entry::entry_of(labels, g, n, c);
         return next + 1;
     }
     next
 }
 
-// Cell c, if it is in the band.
-fn keep_band(
-    words: &mut [u32],
-    next: usize,
-    labels: &[u8],
-    g: Sides,
-    h: Sides,
-    n: usize,
-    m: usize,
-    c: usize,
-) -> usize
-    requires band_asked { BandAsked g h n m c }
-    requires c_in_bounds { next + length (kept (in_band g labels.now c) c) ≤ length words.old }
-    ensures { Placed (entry_of g labels.now) words.old next (kept (in_band g labels.now c) c) result words.new }
-{
-    keep(
-        words,
-        next,
-        labels,
-        g,
-        n,
-        c,
-        crate::band::in_band(labels, g, h, n, m, c),
-    )
-}
-
-// Cell c, if it is air.
-fn keep_air(words: &mut [u32], next: usize, labels: &[u8], g: Sides, n: usize, c: usize) -> usize
+// Whether cell c is in the band.
+fn is_in_band(labels: &[u8], g: Sides, c: usize) -> bool
     requires fit { Fit g }
-    requires n_value { (n ≡ cells g) × (c < cells g) × (next + length (kept (is_air labels.now c) c) ≤ length words.old) }
-    ensures { Placed (entry_of g labels.now) words.old next (kept (is_air labels.now c) c) result words.new }
+    requires c_bound { c < cells g }
+    ensures { result ≡ in_band g labels.now c }
 {
-    keep(
-        words,
-        next,
-        labels,
-        g,
-        n,
-        c,
-        grid::near::label_at(labels, c) == 0,
-    )
+    let h = levels::sides::halved_of(g);
+    let n = grid::place::cell_count(g);
+    let m = grid::place::cell_count(h);
+    crate::band::in_band(labels, g, h, n, m, c)
 }
 
-// Cell c, if it is to be smoothed: in the band, or air.
+// Whether cell c is to be smoothed: in the band, or air.
+fn is_smoothed(labels: &[u8], g: Sides, band: bool, c: usize) -> bool
+    requires fit { Fit g }
+    requires c_bound { c < cells g }
+    ensures { result ≡ smoothed band g labels.now c }
+{
+    if band {
+        is_in_band(labels, g, c)
+    } else {
+        grid::near::label_at(labels, c) == 0
+    }
+}
+
+// Cell c, if it is to be smoothed.
 fn keep_cell(words: &mut [u32], next: usize, labels: &[u8], g: Sides, band: bool, c: usize) -> usize
     requires fit { Fit g }
     requires c_bound { (c < cells g) × (next + length (kept (smoothed band g labels.now c) c) ≤ length words.old) }
     ensures { Placed (entry_of g labels.now) words.old next (kept (smoothed band g labels.now c) c) result words.new }
 {
-    let n = grid::place::cell_count(g);
-    if band {
-        let h = levels::sides::halved_of(g);
-        let m = grid::place::cell_count(h);
-        keep_band(words, next, labels, g, h, n, m, c)
-    } else {
-        keep_air(words, next, labels, g, n, c)
-    }
+    keep(words, next, labels, g, c, is_smoothed(labels, g, band, c))
 }
 
 // The cell of wave w at j and k, if there is one and it is to be smoothed.
@@ -196,10 +167,7 @@ fn is_left(labels: &[u8], g: Sides, band: bool, c: usize) -> bool
         return false;
     }
     if band {
-        let h = levels::sides::halved_of(g);
-        let n = grid::place::cell_count(g);
-        let m = grid::place::cell_count(h);
-        if crate::band::in_band(labels, g, h, n, m, c) {
+        if is_in_band(labels, g, c) {
             return false;
         }
         return true;
@@ -213,8 +181,7 @@ fn keep_left(words: &mut [u32], next: usize, labels: &[u8], g: Sides, band: bool
     requires c_bound { (c < cells g) × (next + length (left_at band g labels.now c) ≤ length words.old) }
     ensures { Placed (entry_of g labels.now) words.old next (left_at band g labels.now c) result words.new }
 {
-    let n = grid::place::cell_count(g);
-    keep(words, next, labels, g, n, c, is_left(labels, g, band, c))
+    keep(words, next, labels, g, c, is_left(labels, g, band, c))
 }
 
 // The cells that are left, by ascending number, from place `at` on; how many they are.

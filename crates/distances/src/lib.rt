@@ -172,7 +172,7 @@ fn is_lost(room: &[u32], labels: &[u8], i: usize) -> bool
     requires { (i < length labels.now) × (i < length room.now) }
     ensures { result ≡ lost labels.now room.now i }
 {
-    if labels[i] == 0 { room[i] == 0 } else { false }
+    labels[i] == 0 && room[i] == 0
 }
 
 // The first air cell with no mark.

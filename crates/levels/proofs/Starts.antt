@@ -5,6 +5,9 @@ use native.Mathlib.Numerals.{add-one}
 use native.Mathlib.Nat.{le_antisymm}
 use native.Mathlib.Omega.{arith}
 use borrow.Author.Rules.{rules}
+use lib.Dec.{ltb}
+use borrow.Author.Tests.{lt-ltb}
+use mathlib.Core.Bool.{cond}
 use lib.ListN.{set, get_or, replicate}
 use Rattle.laws.specs.Lists.{tab}
 use Rattle.laws.proofs.Lists.{get_or_tab}
@@ -32,6 +35,10 @@ module _ {A : Type 0} (z : A) (f : ℕ → A) where
   firsts_more (suc (suc (suc (suc zero)))) h = refl
   firsts_more (suc (suc (suc (suc (suc zero))))) h = refl
   firsts_more (suc (suc (suc (suc (suc (suc k)))))) h = absurd (omega arith)
+
+  pub firsts_at : (k i : ℕ) (d : A) → k ≤ 6 → i < k → get_or (firsts z f k) i d ≡ f i
+  unfolding firsts
+  firsts_at k i d h l = get_or_tab 6 (λ j. cond (ltb j k) (f j) z) i d (omega arith) ∙ ap (λ b. cond b (f i) z) (lt-ltb i k l)
 
   pub firsts_all : firsts z f 6 ≡ tab 6 f
   unfolding firsts tab

@@ -1,15 +1,12 @@
 -- `bands::band::first_child` meets its contract, by its tests. Assumes nothing.
-use Rattle.bands.proofs.Blocks.{blocks}
+use Rattle.laws.proofs.Loops.{branches}
+use Rattle.levels.specs.Kin.{whole_in, first_child}
 use Rattle.bands.proofs.band.first_child.Goals as goal
 
-pub returns-then-g-x : goal.returns-then-g-x
-returns-then-g-x c = search blocks
+pub returns-then-whole : goal.returns-then-whole
+unfolding first_child whole_in
+returns-then-whole c = search branches
 
-pub returns-then-g-y : goal.returns-then-g-y
-returns-then-g-y c = search blocks
-
-pub returns-then-g-z : goal.returns-then-g-z
-returns-then-g-z c = search blocks
-
-pub returns : goal.returns
-returns c = search blocks
+pub returns-else-whole : goal.returns-else-whole
+unfolding first_child whole_in
+returns-else-whole c = search branches

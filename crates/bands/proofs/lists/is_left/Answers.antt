@@ -5,11 +5,8 @@ use Rattle.bands.proofs.lists.is_left.Goals as goal
 pub returns-then-label-ne0 : goal.returns-then-label-ne0
 returns-then-label-ne0 c = search lefts
 
-pub cell_count-m-requires : goal.cell_count-m-requires
-cell_count-m-requires c = search lefts
-
-pub returns-then-in_band : goal.returns-then-in_band
-returns-then-in_band c = search lefts
+pub returns-then-is_in_band : goal.returns-then-is_in_band
+returns-then-is_in_band c = search lefts
 
 pub returns-then-band : goal.returns-then-band
 returns-then-band c = search lefts

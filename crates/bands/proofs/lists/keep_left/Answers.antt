@@ -5,5 +5,5 @@ use Rattle.bands.proofs.lists.keep_left.Goals as goal
 pub keep-requires : goal.keep-requires
 keep-requires c = record {
   fit = search keeps;
-  n_value = (search keeps, search keeps, search keeps);
+  c_bound = (search keeps, search keeps);
 }
