@@ -10,6 +10,7 @@ ghost use Rattle.method.specs.Form.{line};
 ghost use Rattle.text_out.specs.Puts.{Put, Room, Puts};
 
 // Puts bytes at a place, and answers the place after them.
+// Kept beside `Sink::put`, which calls it: `library_tests` puts one part with it, and what it promises is public.
 pub fn put_bytes(output: &mut [u8], at: usize, bytes: &[u8]) -> usize
     requires { at + length bytes.now ≤ length output.old }
     ensures { Put bytes.now output.old at output.new result }
