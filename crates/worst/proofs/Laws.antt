@@ -12,11 +12,10 @@ use lib.Ieee.{Float}
 use lib.ListN.{length}
 use Rattle.laws.proofs.Bools.{and_l, and_r}
 use Rattle.method.specs.declared.Sides.{Sides}
-use Rattle.method.specs.declared.Found.{Found}
-use Rattle.method.specs.declared.Found.TheVariants.{Nowhere, At}
+use Rattle.std.specs.Prelude.{Option, None, Some}
 use Rattle.method.specs.Cast.{cells, label_at, is_air, judged, field, residual, worst, first, is_worst, worst_cell, worst_value}
 use Rattle.theory.proofs.Reach.{test_air}
-use Rattle.theory.proofs.Firsts.{FirstAt, Search, found, none, search_first, None, none_none, none_more, none_end, hit}
+use Rattle.theory.proofs.Firsts.{FirstAt, Search, found, none, search_first, NoneBelow, none_none, none_more, none_end, hit}
 use Rattle.grid.proofs.Steps.{cells_most}
 use Rattle.answers.specs.declared.Worst.{Worst}
 use Rattle.ticks.specs.Faces.{Residual}
@@ -51,30 +50,30 @@ module _ {g : Sides} {ls : List ℕ} {vs : List ℤ} {x : List Float} {w : ℕ} 
   abbrev test : ℕ → Bool
   test = is_worst (cast_of g ls vs) (rounded_on g ls vs x)
 
-  pub cell_hit : (i : ℕ) (r : Bool) → i < length ls → None test i → r ≡ test i → r ≡ true → At i ≡ first test (cells g)
+  pub cell_hit : (i : ℕ) (r : Bool) → i < length ls → NoneBelow test i → r ≡ test i → r ≡ true → Some i ≡ first test (cells g)
   cell_hit i r h k e f = hit test i (cells g) r (omega (arith, z.asked.labelled)) k e f
 
-  pub cell_none : (i : ℕ) → i ≤ length ls → length ls ≤ i → None test i → Nowhere ≡ first test (cells g)
+  pub cell_none : (i : ℕ) → i ≤ length ls → length ls ≤ i → NoneBelow test i → None ≡ first test (cells g)
   cell_none i a b k = none_end test i (cells g) (omega (arith, z.asked.labelled)) (omega (arith, z.asked.labelled)) k
 
   -- ---- what was found
   abbrev pair : ℕ → ℤ → Worst
   pair c v = record { cell = c; left = v }
 
-  abbrev cell_in : Found → ℕ
-  cell_in f = elim f [ At c ↦ c | Nowhere ↦ 0 ]
+  abbrev cell_in : Option ℕ → ℕ
+  cell_in f = elim f [ Some c ↦ c | None ↦ 0 ]
 
-  abbrev value_in : Found → ℤ
-  value_in f = elim f [ At c ↦ residual g ls (field vs) (field (rounded_on g ls vs x)) c | Nowhere ↦ pos 0 ]
+  abbrev value_in : Option ℕ → ℤ
+  value_in f = elim f [ Some c ↦ residual g ls (field vs) (field (rounded_on g ls vs x)) c | None ↦ pos 0 ]
 
-  module _ (c : ℕ) (f : Found) (e : f ≡ first test (cells g)) (h : f ≡ At c) where
+  module _ (c : ℕ) (f : Option ℕ) (e : f ≡ first test (cells g)) (h : f ≡ Some c) where
     found_at : FirstAt test (cells g) c
     found_at = go (search_first test (cells g))
       where
-        same : {i j : ℕ} → At i ≡ At j → i ≡ j
+        same : {i j : ℕ} → Some i ≡ Some j → i ≡ j
         same q = cc
 
-        never : {i : ℕ} → Nowhere ≡ At i → ⊥
+        never : {i : ℕ} → None ≡ Some i → ⊥
         never q = let o : ◌≡◌ {A = ℕ} 0 1 = cc in omega arith
 
         go : Search test (cells g) → FirstAt test (cells g) c
@@ -97,12 +96,12 @@ module _ {g : Sides} {ls : List ℕ} {vs : List ℤ} {x : List Float} {w : ℕ} 
     pub found_is : (r s : ℤ) → Residual g ls vs ps c r → s ≡ r → ◌≡◌ {A = Worst} (record { cell = c; left = s }) (worst_of (cast_of g ls vs) ps)
     unfolding worst_cell worst_value
     found_is r s q o =
-        let here : At c ≡ first test (cells g) = sym h ∙ e in
+        let here : Some c ≡ first test (cells g) = sym h ∙ e in
         ap₂ pair (ap cell_in here) (o ∙ q.is ∙ ap value_in here)
 
-  pub nothing_is : (f : Found) → f ≡ first test (cells g) → f ≡ Nowhere → ◌≡◌ {A = Worst} (record { cell = 0; left = pos 0 }) (worst_of (cast_of g ls vs) ps)
+  pub nothing_is : (f : Option ℕ) → f ≡ first test (cells g) → f ≡ None → ◌≡◌ {A = Worst} (record { cell = 0; left = pos 0 }) (worst_of (cast_of g ls vs) ps)
   unfolding worst_cell worst_value
-  nothing_is f e h = let here : Nowhere ≡ first test (cells g) = sym h ∙ e in ap₂ pair (ap cell_in here) (ap value_in here)
+  nothing_is f e h = let here : None ≡ first test (cells g) = sym h ∙ e in ap₂ pair (ap cell_in here) (ap value_in here)
 
 pub ruleset walking = (wholes, sized_is, not_air)
 

@@ -5,8 +5,8 @@ use Rattle.acceptance.proofs.refused_at.Goals as goal
 pub returns-then-label_at-ne0 : goal.returns-then-label_at-ne0
 returns-then-label_at-ne0 c = search verdicts
 
-pub returns-in-Whole : goal.returns-in-Whole
-returns-in-Whole c = search verdicts
+pub returns-in-Some : goal.returns-in-Some
+returns-in-Some c = search verdicts
 
-pub returns-in-Refused : goal.returns-in-Refused
-returns-in-Refused c = search verdicts
+pub returns-in-None : goal.returns-in-None
+returns-in-None c = search verdicts

@@ -15,11 +15,11 @@ residual_at-requires c = search (rules, found_below, found_air)
 pub narrow-left-requires : goal.narrow-left-requires
 narrow-left-requires c = let h : nat_abs c.residual_at.result < 2 ^ 31 = search (found_small) in search wholes
 
-pub returns-in-At : goal.returns-in-At
-returns-in-At c =
+pub returns-in-Some : goal.returns-in-Some
+returns-in-Some c =
     let e : c.narrow-left.result ≡ c.residual_at.result = c.narrow-left.ensures ∙ to_z-of_z {w = w64} (record { sfits = c.residual_at.type_inv }) in
     rw (to_z-of_z {w = w32} (record { sfits = c.narrow-left.type_inv }))
-    (found_is c.requires _ _ c.worst_cell.ensures c.in-At.is _ _ c.residual_at.ensures e)
+    (found_is c.requires _ _ c.worst_cell.ensures c.in-Some.is _ _ c.residual_at.ensures e)
 
-pub returns-in-Nowhere : goal.returns-in-Nowhere
-returns-in-Nowhere c = search (nothing_is)
+pub returns-in-None : goal.returns-in-None
+returns-in-None c = search (nothing_is)
