@@ -4,17 +4,16 @@ use mathlib.Core.List.{List}
 use Prim.Native.Nat.{ℕ, suc, ◌≤◌}
 use native.Mathlib.Omega.{arith}
 use lib.ListN.{length, drop, length-drop}
-use Rattle.method.specs.declared.Found.{Found}
-use Rattle.method.specs.declared.Found.TheVariants.{Nowhere, At}
+use Rattle.std.specs.Prelude.{Option, None, Some}
 use Rattle.old_header.specs.OldLines.{OldHeaderOf, old_named_by, old_header_in, old_wrong_in, old_start_in}
 use Rattle.old_header.specs.declared.OldHeader.{OldHeader}
 use Rattle.old_header.specs.declared.OldHeaderRead.{OldHeaderRead}
 use Rattle.old_header.specs.declared.OldHeaderRead.TheVariants.{Wrong, Named}
 
 -- where a line is wrong, one more than its number
-abbrev line_number : Found → ℕ
-line_number Nowhere = 0
-line_number (At k) = suc k
+abbrev line_number : Option ℕ → ℕ
+line_number None = 0
+line_number (Some k) = suc k
 
 header_eq : (h g : OldHeader) → h.sides ≡ g.sides → h.unit ≡ g.unit → h.start ≡ g.start → h ≡ g
 header_eq h g a b c = ap₂ (λ x y. record { sides = x; unit = y; start = h.start }) a b ∙ ap (λ z. record { sides = g.sides; unit = g.unit; start = z }) c

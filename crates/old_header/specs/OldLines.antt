@@ -1,9 +1,7 @@
 -- What the code's answers about the two lines mean in method's words.
-use Rattle.std.specs.Prelude.{◌≡◌, List, [], ◌∷◌, ℕ, ◌≤◌, length, drop}
+use Rattle.std.specs.Prelude.{◌≡◌, List, [], ◌∷◌, ℕ, ◌≤◌, length, drop, Option, None, Some}
 use Rattle.laws.specs.Text.{text}
 use Rattle.method.specs.declared.Sides.{Sides}
-use Rattle.method.specs.declared.Found.{Found}
-use Rattle.method.specs.declared.Found.TheVariants.{Nowhere, At}
 use Rattle.method.specs.Form.{Line, Lines, wrong, more, read_lines}
 use Rattle.method.specs.OldForm.{number_to, old_parts, old_header_of, old_header, old_bad_line}
 use Rattle.method.specs.OldForm as form
@@ -21,9 +19,9 @@ unfoldable pub old_header_in : List ℕ → OldHeaderRead → form.OldHeader
 old_header_in bytes (Wrong k) = old_header_of (wrong k)
 old_header_in bytes (Named h) = old_named_by bytes h
 
-unfoldable pub old_wrong_in : OldHeaderRead → Found
-old_wrong_in (Wrong k) = At k
-old_wrong_in (Named h) = Nowhere
+unfoldable pub old_wrong_in : OldHeaderRead → Option ℕ
+old_wrong_in (Wrong k) = Some k
+old_wrong_in (Named h) = None
 
 unfoldable pub old_start_in : OldHeaderRead → ℕ
 old_start_in (Wrong k) = 0
@@ -43,7 +41,7 @@ unfoldable pub with_size : Sides → Lines → Lines
 with_size s ls = more s.nx (more s.ny (more s.nz ls))
 
 pub record NoSize (bytes : List ℕ) : Type 0 where
-  pub line : old_bad_line bytes ≡ At 1
+  pub line : old_bad_line bytes ≡ Some 1
   pub is : old_header bytes ≡ old_header_of (wrong 1)
 
 pub record SizeIs (bytes : List ℕ) (s : Sides) (n : ℕ) : Type 0 where

@@ -13,8 +13,8 @@ use lib.Seq.{take_all}
 use Rattle.laws.proofs.Lists.{get_or_tab}
 use Rattle.method.specs.declared.Sides.{Sides}
 use Rattle.method.specs.declared.Settings.{Settings}
-use Rattle.method.specs.declared.Found.{Found}
-use Rattle.method.specs.declared.Found.TheVariants.{Nowhere}
+use Rattle.std.specs.Prelude.{Option}
+use Rattle.std.specs.Prelude.{None}
 use Rattle.method.specs.Cast.{cells, sides_fit, settings_fit, label_at, widest, first, bad_label, bad_value, label_fault, value_fault}
 use Rattle.method.specs.Answers.{Check, check, fault, verdict}
 use Rattle.method.specs.OldForm.{OldReading, old_named, old_header, old_bad_line, old_value_read, old_labels_in, old_values_in, old_cast_in, unit_fits, old_line_check, old_side_check, old_body_check, old_room_check, old_content_checks, old_reader_checks}
@@ -83,7 +83,7 @@ pub ruleset limits = (rules, not-true, not-false, limits_yes, limits_no)
 pub ruleset sizes = (rules, not-true, not-false, fit_of, sizes_1, sizes_11, sizes_2, sizes_3, sizes_0)
 
 -- ---- 4 and 5 of a body: its labels after its values
-pub cells_ruled : (body ls : List ℕ) (n u : ℕ) (x y : Found) (p q o : Ruling) → ls ≡ drop (2 * n) body → o ≡ first_of p q → p ≡ ruling_by 4 x → q ≡ ruling_by 5 y
+pub cells_ruled : (body ls : List ℕ) (n u : ℕ) (x y : Option ℕ) (p q o : Ruling) → ls ≡ drop (2 * n) body → o ≡ first_of p q → p ≡ ruling_by 4 x → q ≡ ruling_by 5 y
     → x ≡ first (bad_label_at ls) n → y ≡ first (bad_old_value body ls u) n → o ≡ old_body_ruling body n u
 unfolding old_body_ruling
 cells_ruled body ls n u x y p q o l e b d a c =
@@ -154,7 +154,7 @@ module _ (t : Settings) (bytes : List ℕ) (room : ℕ) (h : OldHeader) (z : Old
   unfolding old_start_in
   start_within = z.within
 
-  no_line : old_bad_line bytes ≡ Nowhere
+  no_line : old_bad_line bytes ≡ None
   unfolding old_wrong_in
   no_line = z.line
 

@@ -20,14 +20,18 @@ use Rattle.session_header.specs.declared.Read.{Read}
 use Rattle.session_header.specs.declared.Three.{Three}
 use Rattle.session_header.specs.declared.Header.{Header}
 
--- ---- what leaves at a `?`
-pub left_by : {A : Type 0} (s : Result A ℕ) (e : ℕ) → IsErrAnd s (λ y. y ≡ e) → s ≡ Err e
+-- ---- what leaves at a `?`: the error of the call before
+pub left_by : {T : Type 0} (s : Result T ℕ) (e : ℕ) → IsErrAnd s (λ y. y ≡ e) → s ≡ Err e
 left_by (Err y) e h = ap Err h
 left_by (Ok x) e h = absurd h
 
-pub none_by : {A : Type 0} (r : Option A) (k e : ℕ) → ◌≡◌ {A = Result A ℕ} (Err e) (ok_or r k) → (r ≡ None) × (e ≡ k)
-none_by None k e h = (refl, same_Err e k h)
-none_by (Some x) k e h = absurd (err-ok e x h)
+abbrev err_of : Result Read ℕ → ℕ
+err_of (Err k) = k
+err_of (Ok x) = 0
+
+-- the number that `ok_or` puts to a line that is not of the form
+told : (r : Option Read) (k e : ℕ) → r ≡ None → Err e ≡ ok_or r k → e ≡ k
+told r k e n h = ap err_of h ∙ rw n
 
 -- ---- one line more
 pub read_bad : (line : List ℕ → Line) (ls : List (List ℕ → Line)) (k : ℕ) (l : List ℕ) → line l ≡ bad → read_lines k (line ∷ ls) l ≡ wrong k
@@ -53,26 +57,26 @@ line_within reads l r v h e = rw e at h.within
 
 -- ---- three lines
 module _ (k : ℕ) (a b c l : List ℕ) (r : Option Read) (h : LineOf (number_line a) l r) where
-  pub three_first : r ≡ None → ThreeOf k a b c l (Err k)
+  pub three_first : (d : ℕ) → r ≡ None → Err d ≡ ok_or r k → ThreeOf k a b c l (Err d)
   unfolding three three_of taken3
-  three_first e = record { is = read_bad (number_line a) _ k l (line_bad (number_line a) l r h e); within = omega arith }
+  three_first d e v = rw (told r k d e v) (record { is = read_bad (number_line a) _ k l (line_bad (number_line a) l r h e); within = omega arith })
 
   module _ (x : Read) (e : r ≡ Some x) (m : List ℕ) (f : m ≡ drop x.taken l) (s : Option Read) (g : LineOf (number_line b) m s) where
     on : read_lines k (three a b c) l ≡ more x.value (read_lines (suc k) (number_line b ∷ number_line c ∷ []) m)
     unfolding three
     on = read_good (number_line a) _ k l x.value m (line_good (number_line a) l m r x h e f)
 
-    pub three_second : s ≡ None → ThreeOf k a b c l (Err (k + 1))
+    pub three_second : (w : ℕ) → s ≡ None → Err w ≡ ok_or s (k + 1) → ThreeOf k a b c l (Err w)
     unfolding three_of taken3 more
-    three_second d = record { is = on ∙ rw (read_bad (number_line b) (number_line c ∷ []) (suc k) m (line_bad (number_line b) m s g d), add-one k); within = omega arith }
+    three_second w d v = rw (told s (k + 1) w d v) (record { is = on ∙ rw (read_bad (number_line b) (number_line c ∷ []) (suc k) m (line_bad (number_line b) m s g d), add-one k); within = omega arith })
 
     module _ (y : Read) (d : s ≡ Some y) (o : List ℕ) (p : o ≡ drop y.taken m) (t : Option Read) (q : LineOf (number_line c) o t) where
       on' : read_lines k (three a b c) l ≡ more x.value (more y.value (read_lines (suc (suc k)) (number_line c ∷ []) o))
       on' = on ∙ ap (more x.value) (read_good (number_line b) _ (suc k) m y.value o (line_good (number_line b) m o s y g d p))
 
-      pub three_third : t ≡ None → ThreeOf k a b c l (Err (k + 2))
+      pub three_third : (w : ℕ) → t ≡ None → Err w ≡ ok_or t (k + 2) → ThreeOf k a b c l (Err w)
       unfolding three_of taken3 more
-      three_third u = record { is = on' ∙ rw (read_bad (number_line c) [] (suc (suc k)) o (line_bad (number_line c) o t q u)) (ap wrong (omega arith)); within = omega arith }
+      three_third w u v = rw (told t (k + 2) w u v) (record { is = on' ∙ rw (read_bad (number_line c) [] (suc (suc k)) o (line_bad (number_line c) o t q u)) (ap wrong (omega arith)); within = omega arith })
 
       total : (z : Read) → t ≡ Some z → x.taken + y.taken + z.taken ≤ length l
       total z u = omega (arith, line_within (number_line a) l r x h e, line_within (number_line b) m s y g d, line_within (number_line c) o t z q u, ap length f, ap length p, length-drop x.taken l, length-drop y.taken m)
@@ -129,11 +133,11 @@ order_other zero e = absurd (e refl)
 order_other (suc v) e = refl
 
 module _ (l : List ℕ) (i : ℕ) (s : Sides) (m : List ℕ) (f : m ≡ drop i l) (w : i ≤ length l) (r : Option Read) (h : LineOf order_line m r) where
-  pub on_fourth : r ≡ None → OnFrom l i s (Err 4)
+  pub on_fourth : (k : ℕ) → r ≡ None → Err k ≡ ok_or r 4 → OnFrom l i s (Err k)
   unfolding wrong_in header_in start_in with_sides wrong_line header_of more last_four
-  on_fourth e =
+  on_fourth k e v =
       let q : read_lines 4 last_four (drop i l) ≡ wrong 4 = ap (read_lines 4 last_four) (sym f) ∙ read_bad order_line _ 4 m (line_bad order_line m r h e) in
-      record { line = rw q; is = rw q; within = omega arith }
+      rw (told r 4 k e v) (record { line = rw q; is = rw q; within = omega arith })
 
   module _ (o : Read) (e : r ≡ Some o) (n : List ℕ) (g : n ≡ drop o.taken m) (t : Result Three ℕ) (d : ThreeOf 5 (text "tolerance=") (text "levels=") (text "rounds=") n t) where
     known : read_lines 4 last_four (drop i l) ≡ more o.value (three_of n t)

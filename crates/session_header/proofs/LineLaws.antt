@@ -2,7 +2,6 @@
 use mathlib.Core.Path.{◌≡◌, refl, sym, ap, ap₂, ◌∙◌}
 use mathlib.Core.Bool.{Bool, true, false, not, cond, ◌&&◌, false≢true}
 use mathlib.Core.List.{List, [], ◌∷◌}
-use mathlib.Core.Option.{Option, none, some}
 use Prim.Native.Nat.{ℕ, zero, suc, ◌+◌, ◌-◌, ◌*◌, ◌^◌, ◌≤◌, ◌<◌}
 use native.Mathlib.Nat.{le_of_suc-le-suc, not-suc-le-zero, pow-succ', pow-le-pow_right, lt_of_lt_of_le}
 use native.Mathlib.Numerals.{add-one}
@@ -20,18 +19,17 @@ use Rattle.method.specs.Numbers.{digits, is_digit, is_number, value_of}
 use Rattle.method.specs.Form.{after, closed, number_line, order_line}
 use Rattle.method.specs.OldForm.{number_to}
 use Rattle.theory.proofs.Lines.{line_to}
-use Rattle.std.specs.Prelude.{Some, None}
+use Rattle.std.specs.Prelude.{Option, Some, None}
 use Rattle.std.specs.List.{starts_with, take_while}
 use Rattle.std.specs.Char.{is_ascii_digit}
 use Rattle.std.proofs.lemmas.List.Sums.{take_while-cons}
-use Rattle.std.specs.Prelude as std
 use Rattle.session_header.specs.Lines.{LineOf, line_of, taken}
 use Rattle.session_header.specs.declared.Read.{Read}
 
 -- ---- the key: what is left of the bytes where it stands before them
 abbrev pub left_if : Bool → ℕ → List ℕ → Option (List ℕ)
-left_if true n bytes = some (drop n bytes)
-left_if false n bytes = none
+left_if true n bytes = Some (drop n bytes)
+left_if false n bytes = None
 
 pub record Starts (key bytes : List ℕ) (r : Bool) : Type 0 where
   pub is : after key bytes ≡ left_if r (length key) bytes
@@ -55,7 +53,7 @@ after_is [] bytes = refl
 after_is (k ∷ ks) [] = refl
 after_is (k ∷ ks) (b ∷ bs) = go (eqb b k) (eqb k b) (eqb_sym b k) (after_is ks bs)
   where
-    go : (s t : Bool) → s ≡ t → after ks bs ≡ left_if (starts_with eqb bs ks) (length ks) bs → ◌≡◌ {A = Option (List ℕ)} (elim s [ true ↦ after ks bs | false ↦ none ])
+    go : (s t : Bool) → s ≡ t → after ks bs ≡ left_if (starts_with eqb bs ks) (length ks) bs → ◌≡◌ {A = Option (List ℕ)} (elim s [ true ↦ after ks bs | false ↦ None ])
         (left_if (t && starts_with eqb bs ks) (suc (length ks)) (b ∷ bs))
     go true true e f = f ∙ left_on (starts_with eqb bs ks) (length ks) b bs
     go false false e f = refl
@@ -208,23 +206,23 @@ rest_is l k = take_all (length l - k) (drop k l) (omega (arith, length-drop k l)
 
 -- ---- the line of a key and a number
 abbrev given : Option (List ℕ) → List ℕ
-given none = []
-given (some s) = s
+given None = []
+given (Some s) = s
 
 abbrev is_some : Option (List ℕ) → ℕ
-is_some none = 0
-is_some (some s) = 1
+is_some None = 0
+is_some (Some s) = 1
 
-never_some : {s : List ℕ} → none ≡ some s → ⊥
+never_some : {s : List ℕ} → None ≡ Some s → ⊥
 never_some e = omega (arith, ap is_some e)
 
-after_length : (key l s : List ℕ) → after key l ≡ some s → length key + length s ≡ length l
+after_length : (key l s : List ℕ) → after key l ≡ Some s → length key + length s ≡ length l
 unfolding after
 after_length [] l s e = omega (arith, ap (λ o. length (given o)) e)
 after_length (k ∷ ks) [] s e = absurd (never_some e)
 after_length (k ∷ ks) (b ∷ l) s e = go (eqb b k) (λ q. after_length ks l s q) e
   where
-    go : (t : Bool) → (after ks l ≡ some s → length ks + length s ≡ length l) → elim t [ true ↦ after ks l | false ↦ none ] ≡ some s → suc (length ks) + length s ≡ suc (length l)
+    go : (t : Bool) → (after ks l ≡ Some s → length ks + length s ≡ length l) → elim t [ true ↦ after ks l | false ↦ None ] ≡ Some s → suc (length ks) + length s ≡ suc (length l)
     go true f q = omega (arith, f q)
     go false f q = absurd (never_some q)
 
@@ -276,7 +274,7 @@ module _ (x : ℕ) (key l : List ℕ) (r : Bool) (s : r ≡ starts_with eqb l ke
     word_fits g h = record { fits = omega (arith, within_line g) }
 
 -- a line of a key and a number is one up to a line feed
-pub line_of_to : (key l : List ℕ) (r : std.Option Read) → LineOf (number_to (10 ∷ []) key) l r → LineOf (number_line key) l r
+pub line_of_to : (key l : List ℕ) (r : Option Read) → LineOf (number_to (10 ∷ []) key) l r → LineOf (number_line key) l r
 line_of_to key l r h = record { is = line_to key l ∙ h.is; within = h.within }
 
 -- ---- the line of the order

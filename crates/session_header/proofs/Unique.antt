@@ -4,18 +4,16 @@ use mathlib.Core.List.{List, []}
 use Prim.Native.Nat.{ℕ, suc, ◌≤◌}
 use native.Mathlib.Omega.{arith}
 use lib.ListN.{length, drop, length-drop}
-use Rattle.method.specs.declared.Found.{Found}
-use Rattle.method.specs.declared.Found.TheVariants.{Nowhere, At}
+use Rattle.std.specs.Prelude.{Option, None, Some, Result, Ok, Err}
 use Rattle.method.specs.Form.{Line, bad, good}
 use Rattle.session_header.specs.Lines.{HeaderOf, LineOf, named, header_in, wrong_in, start_in, line_of, taken}
-use Rattle.std.specs.Prelude.{Option, Some, None, Result, Ok, Err}
 use Rattle.session_header.specs.declared.Read.{Read}
 use Rattle.session_header.specs.declared.Header.{Header}
 
 -- where a line is wrong, one more than its number
-abbrev line_number : Found → ℕ
-line_number Nowhere = 0
-line_number (At k) = suc k
+abbrev line_number : Option ℕ → ℕ
+line_number None = 0
+line_number (Some k) = suc k
 
 header_eq : (h g : Header) → h.sides ≡ g.sides → h.order ≡ g.order → h.settings ≡ g.settings → h.start ≡ g.start → h ≡ g
 header_eq h g a b c d =

@@ -1,8 +1,6 @@
 -- What the code's answers about lines mean in method's words.
 use Rattle.std.specs.Prelude.{◌≡◌, List, [], ◌∷◌, ℕ, ◌≤◌, length, drop, Option, Some, None, Result, Ok, Err}
 use Rattle.method.specs.declared.Sides.{Sides}
-use Rattle.method.specs.declared.Found.{Found}
-use Rattle.method.specs.declared.Found.TheVariants.{Nowhere, At}
 use Rattle.method.specs.Form.{Line, bad, good, number_line, order_line, Lines, wrong, right, read_lines, more, header_of, header, bad_line}
 use Rattle.method.specs.Form as form
 use Rattle.session_header.specs.declared.Read.{Read}
@@ -47,9 +45,9 @@ unfoldable pub header_in : List ℕ → Result Header ℕ → form.Header
 header_in bytes (Err k) = header_of (wrong k)
 header_in bytes (Ok h) = named bytes h
 
-unfoldable pub wrong_in : Result Header ℕ → Found
-wrong_in (Err k) = At k
-wrong_in (Ok h) = Nowhere
+unfoldable pub wrong_in : Result Header ℕ → Option ℕ
+wrong_in (Err k) = Some k
+wrong_in (Ok h) = None
 
 unfoldable pub start_in : Result Header ℕ → ℕ
 start_in (Err k) = 0

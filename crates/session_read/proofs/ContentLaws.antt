@@ -4,7 +4,7 @@ use mathlib.Core.Bool.{not}
 use mathlib.Core.List.{List}
 use Prim.Native.Nat.{ℕ}
 use borrow.Author.Rules.{rules}
-use Rattle.method.specs.declared.Found.{Found}
+use Rattle.std.specs.Prelude.{Option}
 use Rattle.method.specs.declared.Order.{Order}
 use Rattle.method.specs.declared.Settings.{Settings}
 use Rattle.method.specs.Cast.{settings_fit, first}
@@ -15,7 +15,7 @@ use Rattle.checks.specs.declared.Ruling.{Ruling}
 use Rattle.session_values.specs.Body.{bad_value_in}
 use Rattle.session_read.specs.Reads.{body_ruling, content_ruling}
 
-pub ruled_found : (k : ℕ) (f x : Found) (p : Ruling) → p ≡ ruling_by k x → x ≡ f → p ≡ ruling_by k f
+pub ruled_found : (k : ℕ) (f x : Option ℕ) (p : Ruling) → p ≡ ruling_by k x → x ≡ f → p ≡ ruling_by k f
 ruled_found k f x p c e = c ∙ ap (ruling_by k) e
 
 -- 4 before 5

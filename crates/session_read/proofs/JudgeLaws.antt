@@ -12,7 +12,7 @@ use lib.ListN.{length, get_or, take, drop, length-drop, length-replicate}
 use lib.Seq.{get_or-take}
 use Rattle.laws.specs.Lists.{tab}
 use Rattle.laws.proofs.Lists.{get_or_tab}
-use Rattle.method.specs.declared.Found.TheVariants.{Nowhere}
+use Rattle.std.specs.Prelude.{None}
 use Rattle.method.specs.Cast.{cells, sides_fit, settings_fit, label_at, widest, first, bad_label, bad_value}
 use Rattle.method.specs.Form.{header, bad_line, labels_in, values_in, cast_in}
 use Rattle.method.specs.Form as form
@@ -96,7 +96,7 @@ module _ (bytes : List ℕ) (room : ℕ) (h : Header) (z : HeaderOf bytes (Named
   unfolding start_in
   start_within = z.within
 
-  no_line : bad_line bytes ≡ Nowhere
+  no_line : bad_line bytes ≡ None
   unfolding wrong_in
   no_line = z.line
 

@@ -4,7 +4,7 @@ use Rattle.method.specs.Cast.{cells, sides_fit, settings_fit, first}
 use Rattle.method.specs.declared.Sides.{Sides}
 use Rattle.method.specs.declared.Order.{Order}
 use Rattle.method.specs.declared.Settings.{Settings}
-use Rattle.method.specs.declared.Found.TheVariants.{Nowhere}
+use Rattle.std.specs.Prelude.{None}
 use Rattle.method.specs.declared.Order.TheVariants.{Big}
 use Rattle.theory.specs.Sessions.{Bytes}
 use Rattle.theory.specs.Sides.{Fit}
@@ -53,7 +53,7 @@ pub record Sized (bytes : List ℕ) (h : Header) (n : ℕ) : Type 0 where
 
 -- a header of a session whose sides and length are right
 pub record Bodied (bytes : List ℕ) (h : Header) : Type 0 where
-  pub line : bad_line bytes ≡ Nowhere
+  pub line : bad_line bytes ≡ None
   pub sized : Sized bytes h (cells h.sides)
 
 -- checks 1 and 11, of the sides and how many bytes the body has

@@ -1,36 +1,27 @@
-use Rattle.std.proofs.Common.{rules, ◌≡◌, ◌≤◌, length, ℕ, ◌+◌, ◌-◌, ◌*◌, ◌<◌, ◌/◌, ◌%◌, Bool, true, false, nat_eq, nat_lt, List, [], ◌∷◌, ◌++◌, slice_index_or, slice_set, bit_and, bit_or, Fits, w8, w32, w64, Bor, MutBor}
-use Rattle.method.specs.Form.{order_of}
-use Rattle.session_header.specs.Lines.{ThreeOf, OnFrom, HeaderOf}
+-- `session_header::three_lines` meets its contract: each return by the lines that led there. Assumes nothing.
+use Rattle.session_header.proofs.HeaderLaws.{threes, left_by}
 use Rattle.session_header.proofs.three_lines.Goals as goal
 
--- src/lib.rt:43:13
 pub returns-in_err-x : goal.returns-in_err-x
-returns-in_err-x c = ?
+returns-in_err-x c = rw (left_by _ _ c.from_residual.ensures.1) (search (threes, c.in_err-x.ensures.ok_part, c.in_err-x.ensures.value))
 
--- src/lib.rt:44:9
 pub rest-second-requires : goal.rest-second-requires
-rest-second-requires c = ?
+rest-second-requires c = search (threes, c.in_ok-x.ensures.ok_part)
 
--- src/lib.rt:45:13
 pub returns-in_err-y : goal.returns-in_err-y
-returns-in_err-y c = ?
+returns-in_err-y c = rw (left_by _ _ c.from_residual-in_err-y.ensures.1) (search (threes, c.in_ok-x.ensures.ok_part, c.in_err-y.ensures.ok_part, c.in_err-y.ensures.value))
 
--- src/lib.rt:46:9
 pub rest-third-requires : goal.rest-third-requires
-rest-third-requires c = ?
+rest-third-requires c = search (threes, c.in_ok-x.ensures.ok_part, c.in_ok-y.ensures.ok_part)
 
--- src/lib.rt:47:13
 pub returns-in_err-z : goal.returns-in_err-z
-returns-in_err-z c = ?
+returns-in_err-z c = rw (left_by _ _ c.from_residual-in_err-z.ensures.1) (search (threes, c.in_ok-x.ensures.ok_part, c.in_ok-y.ensures.ok_part, c.in_err-z.ensures.ok_part, c.in_err-z.ensures.value))
 
--- src/lib.rt:52:16
 pub overflow_add-result : goal.overflow_add-result
-overflow_add-result c = ?
+overflow_add-result c = search (threes, c.in_ok-x.ensures.ok_part, c.in_ok-y.ensures.ok_part)
 
--- src/lib.rt:52:16
 pub overflow_add-result-2 : goal.overflow_add-result-2
-overflow_add-result-2 c = ?
+overflow_add-result-2 c = search (threes, c.in_ok-x.ensures.ok_part, c.in_ok-y.ensures.ok_part, c.in_ok-z.ensures.ok_part)
 
--- src/lib.rt:39:1
 pub returns : goal.returns
-returns c = ?
+returns c = search (threes, c.in_ok-x.ensures.ok_part, c.in_ok-y.ensures.ok_part, c.in_ok-z.ensures.ok_part)

@@ -11,6 +11,9 @@ rest-left-requires c = search lines
 pub returns-then-not-starts_with-2 : goal.returns-then-not-starts_with-2
 returns-then-not-starts_with-2 c = search lines
 
+pub is_number-requires : goal.is_number-requires
+is_number-requires c = search lines
+
 pub value_of-value-requires : goal.value_of-value-requires
 value_of-value-requires c = search lines
 
