@@ -25,13 +25,13 @@ pub left_by : {T : Type 0} (s : Result T ℕ) (e : ℕ) → IsErrAnd s (λ y. y 
 left_by (Err y) e h = ap Err h
 left_by (Ok x) e h = absurd h
 
-abbrev err_of : Result Read ℕ → ℕ
+abbrev err_of : {T : Type 0} → Result T ℕ → ℕ
 err_of (Err k) = k
 err_of (Ok x) = 0
 
 -- the number that `ok_or` puts to a line that is not of the form
-told : (r : Option Read) (k e : ℕ) → r ≡ None → Err e ≡ ok_or r k → e ≡ k
-told r k e n h = ap err_of h ∙ rw n
+pub told : {T : Type 0} (r : Option T) (k e : ℕ) → r ≡ None → Err e ≡ ok_or r k → e ≡ k
+told r k e n h = ap err_of h ∙ ap (λ o. err_of (ok_or o k)) n
 
 -- ---- one line more
 pub read_bad : (line : List ℕ → Line) (ls : List (List ℕ → Line)) (k : ℕ) (l : List ℕ) → line l ≡ bad → read_lines k (line ∷ ls) l ≡ wrong k

@@ -5,9 +5,6 @@ use Rattle.session_header.proofs.line.number_to.Goals as goal
 pub returns-then-not-starts_with : goal.returns-then-not-starts_with
 returns-then-not-starts_with c = search lines
 
-pub rest-left-requires : goal.rest-left-requires
-rest-left-requires c = search lines
-
 pub returns-then-not-starts_with-2 : goal.returns-then-not-starts_with-2
 returns-then-not-starts_with-2 c = search lines
 

@@ -8,9 +8,6 @@ bounds-bytes-i c = search numbers
 pub with_digit-v-requires : goal.with_digit-v-requires
 with_digit-v-requires c = search numbers
 
-pub loop-i-init : goal.loop-i-init
-loop-i-init c = search numbers
-
 pub loop-i-preserved : goal.loop-i-preserved
 loop-i-preserved c = search numbers
 
