@@ -20,7 +20,7 @@ use Rattle.laws.specs.Whole.{neg}
 use Rattle.laws.proofs.Naturals.{le_or_lt}
 use Rattle.method.specs.declared.Answer.{Answer}
 use Rattle.method.specs.declared.Sides.{Sides}
-use Rattle.method.specs.declared.Found.{Found}
+use Rattle.std.specs.Prelude.{Option}
 use Rattle.method.specs.Cast.{cells, sides_fit, first}
 use Rattle.method.specs.Answers.{fault, passed, refused, verdict, refusal, done}
 use Rattle.method.specs.Rooms.{filled}
@@ -131,7 +131,7 @@ module _ (s : Sides) (u : ℕ) (ls : List ℕ) (vs : List ℤ) (room : ℕ) wher
       pub slices_values : n ≤ length vs
       slices_values = omega (arith, c, (lengths_known (sym p ∙ e)).1.0)
 
-      pub slices_cells : (o q r : Ruling) (x : Found) → o ≡ first_of q r → q ≡ cell_ruling ls vs n → r ≡ ruling_by 13 x → x ≡ first (inexpressible u vs) n → o ≡ old_slice_ruling lent
+      pub slices_cells : (o q r : Ruling) (x : Option ℕ) → o ≡ first_of q r → q ≡ cell_ruling ls vs n → r ≡ ruling_by 13 x → x ≡ first (inexpressible u vs) n → o ≡ old_slice_ruling lent
       unfolding old_slice_ruling ruling_by first_of
       slices_cells o q r x g a d f =
           g ∙ ap₂ first_of (a ∙ ap (cell_ruling ls vs) c) (d ∙ ap (ruling_by 13) (f ∙ ap (first (inexpressible u vs)) c))
