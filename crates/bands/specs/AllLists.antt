@@ -47,16 +47,6 @@ row_in s k = get_or s k no_list
 unfoldable pub lists_to : Sides → List ℕ → ℕ → ℕ → Lists
 lists_to g ls count k = firsts no_list (list_row g ls count) k
 
--- of six lists, what is read of level k's; 0 beyond the sixth
-abbrev pub list_start : Lists → ℕ → ℕ
-list_start s k = (get_or s k no_list).start
-
-abbrev pub list_swept : Lists → ℕ → ℕ
-list_swept s k = (get_or s k no_list).swept
-
-abbrev pub list_air : Lists → ℕ → ℕ
-list_air s k = (get_or s k no_list).air
-
 -- what count levels' lists leave in the room e, and what comes back of them
 pub record AllListed (g : Sides) (ls : List ℕ) (count : ℕ) (e : List ℕ) (r : Lists) (s : List ℕ) : Type 0 where
   pub lists : r ≡ lists_to g ls count count
