@@ -65,6 +65,10 @@ pub zero_bits : of_bits binary64 0 ≡ +0
 unfolding of_bits of_fields
 zero_bits = refl
 
+-- the front of a room of numbers, cleared
+pub zeroed_front : (n : ℕ) (e s : List Float) → s ≡ cleared n (of_bits binary64 0) e → s ≡ tab n (λ c. +0) ++ drop n e
+zeroed_front n e s q = q ∙ ap (λ z. cleared n z e) zero_bits ∙ cleared_tab +0 n e
+
 -- a part that is lent to the end of a room of numbers, and comes home with zeros
 pub zeroed_part : (from n : ℕ) (e part : List Float) → from ≤ length e → part ≡ cleared n (of_bits binary64 0) (mid_of from (length e - from) e)
     → put_mid from (length e - from) e part ≡ take from e ++ (tab n (λ c. +0) ++ drop (from + n) e)

@@ -11,6 +11,7 @@ ghost use Rattle.rounds.specs.Rounds.{below, plan_sides, plan_labels, Prepared, 
 use crate::Plan;
 use cg_fields::entries::is_finite;
 use method::{Scalars, Sides, Step};
+use smooth::Lattice;
 
 // Whether a number is finite and above 0.
 fn is_usable(x: f64) -> bool
@@ -90,12 +91,9 @@ fn apply(room: &mut [f64], bytes: &[u8], words: &[u32], plan: Plan, labels: &[u8
 {
     let s = plan.lists;
     let air = cycle::level_air(words, s, 0);
-    let n = labels.len();
-    let nx = g.nx as usize;
-    let plane = nx * (g.ny as usize);
-    let zero = room.len() - 1;
+    let lattice = Lattice::of(g, labels.len(), room.len());
     cycle::end_in_zero(room);
-    cg_fields::entries::apply(room, air, n, nx, plane, zero);
+    cg_fields::entries::apply(room, air, lattice);
 }
 
 // A p in t, and sigma = p·A p.

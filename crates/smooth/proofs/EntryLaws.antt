@@ -293,6 +293,9 @@ module _ (l : Lattice) (n nx plane z : ℕ) (is : l ≡ record { n = n; nx = nx;
   pub lattice_air : (g : Sides) (ls es : List ℕ) → AirEntries g ls n nx plane es → AirEntries g ls l.n l.nx l.plane es
   lattice_air g ls es a = rw is a
 
+  pub lattice_before : (k : ℕ) → k * n ≤ z → k * l.n ≤ l.zero
+  lattice_before k h = rw is h
+
   pub lattice_zero : (r : List Float) → value r z ≡ +0 → value r l.zero ≡ +0
   lattice_zero r h = rw is h
 
