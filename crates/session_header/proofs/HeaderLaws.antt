@@ -21,10 +21,6 @@ use Rattle.session_header.specs.declared.Three.{Three}
 use Rattle.session_header.specs.declared.Header.{Header}
 
 -- ---- what leaves at a `?`: the error of the call before
-pub left_by : {T E : Type 0} (s : Result T E) (e : E) → IsErrAnd s (λ y. y ≡ e) → s ≡ Err e
-left_by (Err y) e h = ap Err h
-left_by (Ok x) e h = absurd h
-
 abbrev err_of : {T : Type 0} → Result T ℕ → ℕ
 err_of (Err k) = k
 err_of (Ok x) = 0

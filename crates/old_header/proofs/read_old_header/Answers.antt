@@ -1,5 +1,5 @@
 -- `old_header::read_old_header` meets its contract: the size, then the unit. Assumes nothing.
-use Rattle.session_header.proofs.HeaderLaws.{left_by}
+use Rattle.laws.proofs.Results.{left_by}
 use Rattle.old_header.proofs.OldHeaderLaws.{headers}
 use Rattle.old_header.proofs.read_old_header.Goals as goal
 

@@ -1,5 +1,6 @@
 -- `session_header::after_sides` meets its contract: each return by the lines that led there. Assumes nothing.
-use Rattle.session_header.proofs.HeaderLaws.{headers, left_by}
+use Rattle.session_header.proofs.HeaderLaws.{headers}
+use Rattle.laws.proofs.Results.{left_by}
 use Rattle.session_header.proofs.after_sides.Goals as goal
 
 pub returns-in_err-o : goal.returns-in_err-o

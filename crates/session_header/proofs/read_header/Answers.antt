@@ -1,5 +1,6 @@
 -- `session_header::read_header` meets its contract: the sides, then the rest. Assumes nothing.
-use Rattle.session_header.proofs.HeaderLaws.{headers, left_by}
+use Rattle.session_header.proofs.HeaderLaws.{headers}
+use Rattle.laws.proofs.Results.{left_by}
 use Rattle.session_header.proofs.read_header.Goals as goal
 
 pub returns-in_err-three : goal.returns-in_err-three

@@ -1,5 +1,6 @@
 -- `session_header::three_lines` meets its contract: each return by the lines that led there. Assumes nothing.
-use Rattle.session_header.proofs.HeaderLaws.{threes, left_by}
+use Rattle.session_header.proofs.HeaderLaws.{threes}
+use Rattle.laws.proofs.Results.{left_by}
 use Rattle.session_header.proofs.three_lines.Goals as goal
 
 pub returns-in_err-x : goal.returns-in_err-x

@@ -16,4 +16,4 @@ returns-in-Ok c =
     c.write_ticks.ensures c.worst_of-at.ensures c.accepted.ensures
 
 pub returns-in-Err : goal.returns-in-Err
-returns-in-Err c = ran_unfinished _ _ _ _ _ _ c.run.ensures _ _ _ _ c.in-Err.is c.requires.of_cast c.number.ensures c.rounds.ensures c.unfinished.ensures
+returns-in-Err c = ran_unfinished _ _ _ _ _ _ c.run.ensures _ _ _ _ _ _ c.in-Err.is c.requires.of_cast c.number.ensures c.rounds.ensures c.unfinished.ensures

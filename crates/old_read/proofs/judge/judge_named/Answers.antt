@@ -1,5 +1,5 @@
 -- `old_read::judge::judge_named` meets its contract: each return by the checks that led there. Assumes nothing.
-use Rattle.session_header.proofs.HeaderLaws.{left_by}
+use Rattle.laws.proofs.Results.{left_by}
 use Rattle.old_read.proofs.JudgeLaws.{named}
 use Rattle.old_read.proofs.judge.judge_named.Goals as goal
 

@@ -1,5 +1,5 @@
 -- `old_read::judge::judge_old` meets its contract: the header, then the others. Assumes nothing.
-use Rattle.session_header.proofs.HeaderLaws.{left_by}
+use Rattle.laws.proofs.Results.{left_by}
 use Rattle.old_read.proofs.JudgeLaws.{bad_line_told}
 use Rattle.old_read.proofs.judge.judge_old.Goals as goal
 

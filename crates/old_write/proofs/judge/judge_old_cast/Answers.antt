@@ -1,5 +1,5 @@
 -- `old_write::judge::judge_old_cast` meets its contract: 1 and 3 before the others. Assumes nothing.
-use Rattle.session_header.proofs.HeaderLaws.{left_by}
+use Rattle.laws.proofs.Results.{left_by}
 use Rattle.old_write.proofs.WriteLaws.{casts}
 use Rattle.old_write.proofs.judge.judge_old_cast.Goals as goal
 

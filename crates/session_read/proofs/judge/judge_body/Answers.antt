@@ -1,5 +1,5 @@
 -- `session_read::judge::judge_body` meets its contract: each return by the checks that led there. Assumes nothing.
-use Rattle.session_header.proofs.HeaderLaws.{left_by}
+use Rattle.laws.proofs.Results.{left_by}
 use Rattle.session_read.proofs.JudgeLaws.{sized}
 use Rattle.session_read.proofs.judge.judge_body.Goals as goal
 

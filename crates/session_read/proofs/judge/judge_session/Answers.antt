@@ -1,5 +1,5 @@
 -- `session_read::judge::judge_session` meets its contract: the header, then the sizes. Assumes nothing.
-use Rattle.session_header.proofs.HeaderLaws.{left_by}
+use Rattle.laws.proofs.Results.{left_by}
 use Rattle.session_read.proofs.JudgeLaws.{bad_line_told}
 use Rattle.session_read.proofs.judge.judge_session.Goals as goal
 

@@ -1,5 +1,5 @@
 -- `session_read::judge::judge_sizes` meets its contract: the sizes, then the rest. Assumes nothing.
-use Rattle.session_header.proofs.HeaderLaws.{left_by}
+use Rattle.laws.proofs.Results.{left_by}
 use Rattle.session_read.proofs.JudgeLaws.{sized}
 use Rattle.session_read.proofs.judge.judge_sizes.Goals as goal
 

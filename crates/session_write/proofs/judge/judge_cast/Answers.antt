@@ -1,5 +1,5 @@
 -- `session_write::judge::judge_cast` meets its contract: 1 and 3 before the others. Assumes nothing.
-use Rattle.session_header.proofs.HeaderLaws.{left_by}
+use Rattle.laws.proofs.Results.{left_by}
 use Rattle.session_write.proofs.WriteLaws.{casts}
 use Rattle.session_write.proofs.judge.judge_cast.Goals as goal
 

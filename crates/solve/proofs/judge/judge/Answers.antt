@@ -1,4 +1,5 @@
 -- `solve::judge::judge` meets its contract: the verdict by where it returns. Assumes nothing.
+use Rattle.laws.proofs.Results.{left_by}
 use Rattle.solve.proofs.Judging.{fits_sides, labels_known, values_known, sides_refused, lengths_refused, content_judged}
 use Rattle.solve.proofs.judge.judge.Goals as goal
 
@@ -10,3 +11,12 @@ judge_content-requires c = record {
   fit = fits_sides c.judge_sides.ensures c.in_ok-judge_sides.was;
   n_value = (c.cell_count-n.ensures.0, (c.cell_count-n.ensures.1, (labels_known _ _ _ _ _ _ _ _ c.lengths_fit.ensures c.if-not-lengths_fit.false, values_known _ _ _ _ _ _ _ _ c.lengths_fit.ensures c.if-not-lengths_fit.false)));
 }
+
+pub returns-in_err-judge_sides : goal.returns-in_err-judge_sides
+returns-in_err-judge_sides c = rw (left_by _ _ c.from_residual.ensures.1) (sides_refused _ _ _ _ _ _ _ _ _ c.judge_sides.ensures _ c.in_err-judge_sides.was)
+
+pub returns-then-not-lengths_fit : goal.returns-then-not-lengths_fit
+returns-then-not-lengths_fit c = lengths_refused _ _ _ _ _ _ _ _ _ c.judge_sides.ensures c.in_ok-judge_sides.was _ c.cell_count-n.ensures.0 _ c.lengths_fit.ensures c.if-not-lengths_fit.true
+
+pub returns : goal.returns
+returns c = content_judged _ _ _ _ _ _ _ _ _ c.judge_sides.ensures c.in_ok-judge_sides.was _ c.cell_count-n.ensures.0 _ c.lengths_fit.ensures _ c.if-not-lengths_fit.false c.judge_content.ensures
