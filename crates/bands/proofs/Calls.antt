@@ -4,7 +4,7 @@ use Prim.Native.Nat.{ℕ, ◌≤◌, ◌<◌}
 use mathlib.Core.Path.{◌≡◌, sym, ap, ◌∙◌}
 use mathlib.Core.List.{List}
 use native.Mathlib.Omega.{arith}
-use lib.ListN.{length, get_or}
+use lib.ListN.{length}
 use Rattle.method.specs.declared.Sides.{Sides}
 use Rattle.method.specs.Cast.{cells, label_at}
 use Rattle.method.specs.Rooms.{word_need}
@@ -20,7 +20,7 @@ use Rattle.levels.proofs.Calls.{labels_in_lem}
 use Rattle.bands.specs.declared.lists.LevelList.{LevelList}
 use Rattle.levels.proofs.Starts.{firsts_at}
 use Rattle.bands.specs.Lists.{Listed}
-use Rattle.bands.specs.AllLists.{Lists, list_at, air_at, lists_before, list_row, no_list, lists_to, list_start, list_swept, list_air, AllListed, base_labels, ListsAsked}
+use Rattle.bands.specs.AllLists.{Lists, list_at, air_at, lists_before, list_row, no_list, lists_to, row_in, AllListed, base_labels, ListsAsked}
 
 module _ (l : Levels) (count : ℕ) (ls e s : List ℕ) (a : LabelsAsked l count (length ls) (length e)) (h : s ≡ written e 0 (all_labels (base l) ls count)) where
   pub base_labels_lem : base_labels l s ≡ ls
@@ -45,21 +45,21 @@ words_enough g ls z long w i₀ air count words r = omega (arith, air_of_six g l
 
 -- ---- what is read of the lists: level k's, where k is a level in use
 module _ {g : Sides} {ls : List ℕ} {count : ℕ} {e : List ℕ} {r : Lists} {s : List ℕ} (p : AllListed g ls count e r s) (k : ℕ) (most : count ≤ 6) (h : k < count) where
-  row_of : get_or r k no_list ≡ list_row g ls count k
+  row_of : row_in r k ≡ list_row g ls count k
   unfolding lists_to
-  row_of = ap (λ t. get_or t k no_list) p.lists ∙ firsts_at no_list (list_row g ls count) count k no_list most h
+  row_of = ap (λ t. row_in t k) p.lists ∙ firsts_at no_list (list_row g ls count) count k no_list most h
 
-  pub list_start_lem : list_start r k ≡ length (lists_before g ls count k)
+  pub row_start : (row_in r k).start ≡ length (lists_before g ls count k)
   unfolding list_row
-  list_start_lem = ap (λ (t : LevelList). t.start) row_of
+  row_start = ap (λ (t : LevelList). t.start) row_of
 
-  pub list_swept_lem : list_swept r k ≡ length (list_at g ls count k)
+  pub row_swept : (row_in r k).swept ≡ length (list_at g ls count k)
   unfolding list_row
-  list_swept_lem = ap (λ (t : LevelList). t.swept) row_of
+  row_swept = ap (λ (t : LevelList). t.swept) row_of
 
-  pub list_air_lem : list_air r k ≡ length (air_at g ls count k)
+  pub row_air : (row_in r k).air ≡ length (air_at g ls count k)
   unfolding list_row
-  list_air_lem = ap (λ (t : LevelList). t.air) row_of
+  row_air = ap (λ (t : LevelList). t.air) row_of
 
 -- ---- what is promised is one result
 module _ {e : List ℕ} {a : ℕ} {l : List ℕ} {r r' : ℕ} {s s' : List ℕ} where

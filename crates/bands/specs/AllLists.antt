@@ -40,18 +40,12 @@ list_row g ls count j = record {
 abbrev pub no_list : LevelList
 no_list = record { start = 0; swept = 0; air = 0 }
 
+-- of six lists, what is read of level k's; 0 beyond the sixth
+abbrev pub row_in : Lists → ℕ → LevelList
+row_in s k = get_or s k no_list
+
 unfoldable pub lists_to : Sides → List ℕ → ℕ → ℕ → Lists
 lists_to g ls count k = firsts no_list (list_row g ls count) k
-
--- of six lists, what is read of level k's; 0 beyond the sixth
-abbrev pub list_start : Lists → ℕ → ℕ
-list_start s k = (get_or s k no_list).start
-
-abbrev pub list_swept : Lists → ℕ → ℕ
-list_swept s k = (get_or s k no_list).swept
-
-abbrev pub list_air : Lists → ℕ → ℕ
-list_air s k = (get_or s k no_list).air
 
 -- what count levels' lists leave in the room e, and what comes back of them
 pub record AllListed (g : Sides) (ls : List ℕ) (count : ℕ) (e : List ℕ) (r : Lists) (s : List ℕ) : Type 0 where

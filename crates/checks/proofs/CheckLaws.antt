@@ -1,11 +1,12 @@
 -- Laws of the checks: tests joined, cells one by one, and that method's checks 4 and 5 are these. Assumes nothing.
 use mathlib.Core.Path.{◌≡◌, refl, sym, ap, ap₂, ◌∙◌}
-use mathlib.Core.Bool.{Bool}
+use mathlib.Core.Bool.{Bool, not}
 use mathlib.Core.List.{List, ◌∷◌}
-use Prim.Native.Nat.{ℕ, ◌^◌, ◌≤◌, ◌<◌}
+use native.Mathlib.Omega.{arith}
+use Prim.Native.Nat.{ℕ, zero, suc, ◌^◌, ◌≤◌, ◌<◌}
 use borrow.Author.Rules.{rules}
-use borrow.Author.Tests.{le-leb, lt-leb}
-use lib.Dec.{ltb, leb}
+use borrow.Author.Tests.{le-leb, lt-leb, lt-ltb, ne_eqb}
+use lib.Dec.{ltb, leb, eqb}
 use lib.IntN.{ℤ, pos, nat_abs}
 use lib.ListN.{length, get_or}
 use lib.Signed.{mag}
@@ -18,7 +19,7 @@ use Rattle.std.specs.Prelude.{Result}
 use Rattle.answers.specs.declared.Fault.{Fault}
 use Rattle.answers.specs.declared.Fault.TheVariants.{BadLabel, BadValue}
 use Rattle.method.specs.Cast.{Cast, between, cells, label_at, widest, first, bad_label, bad_value, label_fault, value_fault}
-use Rattle.method.specs.Answers.{Check, check, verdict}
+use Rattle.method.specs.Answers.{Check, check, fault, verdict}
 use Rattle.checks.specs.Faults.{bad_label_at, bad_value_at, cell_ruling}
 use Rattle.checks.specs.Rulings.{ruling_of, ruling_by, first_of}
 use Rattle.checks.proofs.RuleLaws.{label_is, value_is, ruling_more, first_assoc}
@@ -54,6 +55,11 @@ label_fault_lem s ls = refl
 pub value_fault_lem : (s : Sides) (ls : List ℕ) (vs : List ℤ) → bad_value s ls vs ≡ first (bad_value_at ls vs) (cells s)
 unfolding bad_value bad_value_at
 value_fault_lem s ls vs = refl
+
+-- no cell is air, as method has it and as it is counted
+pub none_is : (i : ℕ) → fault (eqb i 0) ≡ fault (not (ltb 0 i))
+none_is zero = refl
+none_is (suc i) = ap fault (ne_eqb (suc i) 0 (λ p. omega arith)) ∙ ap (λ b. fault (not b)) (sym (lt-ltb 0 (suc i) (omega arith)))
 
 -- in any list of checks in which they stand before others, of anything that has a cast
 module _ {A : Type 0} (cast : A → Cast) (cs : List (Check A)) (a : A) (n : ℕ) (e : n ≡ cells (cast a).sides) where

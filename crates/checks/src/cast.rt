@@ -1,12 +1,14 @@
 // The checks of sides, settings, labels and values.
 ghost use Rattle.std.specs.Prelude.{◌≡◌, ◌&&◌, ◌<◌, ◌≤◌, ltb, nat_abs, length};
-ghost use Rattle.method.specs.Cast.{sides_fit, settings_fit, widest, first};
+ghost use Rattle.method.specs.Cast.{sides_fit, settings_fit, interior, widest, first};
 ghost use Rattle.method.specs.Cast.{between as Cast·between};
-ghost use Rattle.answers.specs.declared.Fault.TheVariants.{SideOutOfRange, SettingOutOfRange, BadLabel, BadValue};
+ghost use Rattle.answers.specs.declared.Fault.TheVariants.{SideOutOfRange, SettingOutOfRange, BadLabel, BadValue, NoAir};
+ghost use Rattle.theory.specs.Sides.{Fit};
 ghost use Rattle.checks.specs.Faults.{bad_label_at, bad_value_at, cell_ruling};
 ghost use Rattle.checks.specs.Rulings.{ruling_by, unless};
 
 use answers::Fault;
+use grid::interior::interior;
 use method::{Settings, Sides};
 use search::first_where;
 
@@ -140,4 +142,16 @@ pub fn judge_cells(labels: &[u8], values: &[i32], n: usize) -> Result<(), Fault>
 {
     judge_labels(labels, n)?;
     judge_values(labels, values, n)
+}
+
+// Check 6 and its fault: no cell is air.
+pub fn judge_air(sides: Sides, labels: &[u8]) -> Result<(), Fault>
+    requires { Fit sides }
+    ensures { result ≡ unless NoAir (ltb 0 (interior sides labels.now)) }
+{
+    if 0 < interior(labels, sides) {
+        Ok(())
+    } else {
+        Err(Fault::NoAir)
+    }
 }
