@@ -11,6 +11,9 @@ ghost use Rattle.bands.specs.Other.{BandAsked, BlockAsked, AroundAsked, child_ot
 use grid::place::Spot;
 use method::Sides;
 
+// Kept: labels, sides and numbers of cells go from function to function. A struct of them holds a `&`, so that each
+// `ensures` would have to write `l.entry.labels.now` for `labels.now`.
+
 // The t-th of the eight coarse cells that give to the cell at s, or m, the number of coarse cells, outside the coarse
 // box.
 fn parent(h: Sides, m: usize, s: Spot, t: usize) -> usize

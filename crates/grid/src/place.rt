@@ -4,6 +4,8 @@ ghost use Rattle.method.specs.Cast.{cells, number};
 ghost use Rattle.theory.specs.Sides.{Fit};
 ghost use Rattle.grid.specs.Place.{SpotOf, place_at};
 
+// Kept: that the coordinates are at most 32 (`Near`) stands in contracts. As a ghost field, each spec that makes a Spot
+// (`parent_spot`) would have to prove it.
 #[derive(Clone, Copy)]
 pub struct Spot {
     pub x: usize,
