@@ -6,8 +6,8 @@ use mathlib.Core.Bool.{Bool, true, false, cond}
 use mathlib.Core.List.{List, [], ◌∷◌, ◌++◌, map}
 use native.Mathlib.Omega.{arith}
 use lib.Dec.{T, eqb}
-use lib.ListN.{length, get_or, set, drop, length-map, get_or-map}
-use lib.Seq.{get_or-set_other}
+use lib.ListN.{length, get_or, set, take, drop, length-append, length-map, get_or-map}
+use lib.Seq.{get_or-set_other, get_or-take, get_or-append_seam, take_all, take_at, take-take}
 use lib.Ieee.{Float, nan, binary64, fits, of_bits}
 use borrow.Author.Rules.{rules}
 use borrow.Author.Tests.{eqb-true, eq-eqb, ne_eqb}
@@ -175,9 +175,6 @@ zero_kept s c z x l h = get_or-set_other s c z x nan (λ e. omega arith) ∙ h
 pub reads_at : {n nx plane z len : ℕ} {es : List ℕ} (k : ℕ) → AllRead n nx plane z len es → k < length es → Reads n nx plane (get_or es k 0)
 reads_at k a h = a.at k h
 
-pub reads_back : {n nx plane z len : ℕ} {es : List ℕ} (k : ℕ) → AllRead n nx plane z len es → 0 < k → k ≤ length es → Reads n nx plane (get_or es (k - 1) 0)
-reads_back k a p h = a.at (k - 1) (omega arith)
-
 -- what a turn does, for every cast of which the word is an entry
 abbrev pub Turned : ℕ → ℕ → ℕ → ℕ → List Float → List Float → Type 0
 Turned n nx plane e s t = (g : Sides) (ls : List ℕ) → Entry g ls n nx plane e → t ≡ relax_turn g ls (e % 32768) s
@@ -222,9 +219,42 @@ module _ {n nx plane : ℕ} {es : List ℕ} where
       sweep_down_is g ls (cells_of es) s₀ s (omega (arith, e.n_is))
       (down_end a (r.for g ls e) ∙ ap (λ m. down (list_turn g ls (cells_of es)) m s₀) (sym (count_is es)))
 
+-- what an iterator that goes from the list's end has left stands at the list's front
+pub record Front (es rest : List ℕ) : Type 0 where
+  pub few : length rest ≤ length es
+  pub is : rest ≡ take (length rest) es
+
+pub front_all : {es rest : List ℕ} → rest ≡ es → Front es rest
+front_all {es} {rest} e = record { few = omega (arith, ap length e); is = e ∙ sym (take_all (length rest) es (omega (arith, ap length e))) }
+
+-- and so does what it has left after one more, the next of the list backward
+module _ {es rest : List ℕ} (left : List ℕ) (e : ℕ) (f : Front es rest) (step : rest ≡ left ++ (e ∷ [])) where
+  one_less : length rest ≡ length left + 1
+  one_less = ap length step ∙ length-append left (e ∷ [])
+
+  pub front_less : Front es left
+  front_less = record {
+    few = omega (arith, f.few, one_less);
+    is = sym (take_at left (e ∷ []) (length left) refl) ∙ ap (take (length left)) (sym step ∙ f.is) ∙ take-take (length left) (length rest) es (omega (arith, one_less));
+  }
+
+  next_is : get_or es (length left) 0 ≡ e
+  next_is =
+      sym (get_or-take (length rest) es (length left) 0 (omega (arith, one_less))) ∙ ap (λ l. get_or l (length left) 0) (sym f.is ∙ step)
+      ∙ get_or-append_seam left e [] 0
+
+  pub front_entry : {n nx plane z len : ℕ} → AllRead n nx plane z len es → Reads n nx plane e
+  front_entry {n} {nx} {plane} a = rw next_is at (a.at (length left) (omega (arith, f.few, one_less)))
+
+  pub front_more : {n nx plane : ℕ} {s₀ s t : List Float} → Falling n nx plane es s₀ (length rest) s → Turned n nx plane e s t → Falling n nx plane es s₀ (length left) t
+  front_more {n} {nx} {plane} {s₀} {s} {t} r h =
+      let less : length rest - 1 ≡ length left = omega (arith, one_less) in
+      let here : Turned n nx plane (get_or es (length rest - 1) 0) s t = rw less (rw next_is h) in
+      rw less at (falling_more r (omega (arith, one_less)) f.few here)
+
 pub ruleset rising = (rules, reads_at, rising_none, rising_more)
 
-pub ruleset falling = (rules, reads_back, falling_none, falling_more)
+pub ruleset falling = (rules, falling_none)
 
 -- ---- a list of entries, from the cells
 module _ (g : Sides) (ls : List ℕ) (z : Fit g) where

@@ -84,7 +84,7 @@ pub fn sweep_down(room: &mut [f64], list: &[u32], lattice: Lattice)
     ensures zero_after { value room.new lattice.zero ≡ +0 }
     ensures room_after { (g : Sides) (ls : List ℕ) → Entries g ls lattice.n lattice.nx lattice.plane list.now → room.new ≡ swept_down g ls (cells_of list.now) (b_of (cells g) room.old) (u_of (cells g) room.old) ++ drop (cells g) room.old }
 {
-    for k in (0..list.len()).rev() {
-        relax_entry(room, lattice, list[k]);
+    for &e in list.iter().rev() {
+        relax_entry(room, lattice, e);
     }
 }
