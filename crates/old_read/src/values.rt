@@ -4,34 +4,27 @@ ghost use Rattle.laws.specs.Lists.{tab};
 ghost use Rattle.laws.specs.Whole.{◌*ᶻ◌};
 ghost use Rattle.method.specs.Rooms.{filled};
 ghost use Rattle.method.specs.Cast.{first};
-ghost use Rattle.method.specs.Form.{most_first, word_of};
+ghost use Rattle.method.specs.Form.{most_first};
 ghost use Rattle.method.specs.OldForm.{short_signed};
 ghost use Rattle.old_read.specs.OldBody.{old_value_in, bad_old_value};
 
 use checks::cast::out_of_range;
 use search::first_where;
-use session_values::{signed, store_first, word};
+use session_values::store_first;
 
-// The unit times the signed number that a word of 16 bits stands for, as a word of 32 bits.
-fn product(w: u32, unit: u32) -> u32
-    requires { (w < 65536) × (unit ≤ 1000) }
-    ensures { result ≡ word_of (pos unit *ᶻ short_signed w) }
+// The signed number of 16 bits that two bytes stand for, the most significant first.
+fn short(a: u8, b: u8) -> i16
+    ensures { result ≡ short_signed (most_first 0 (a ∷ b ∷ [])) }
 {
-    if w < 32768 {
-        return unit * w;
-    }
-    let size = unit * (65536 - w);
-    if size == 0 {
-        return 0;
-    }
-    4294967295 - (size - 1)
+    i16::from_be_bytes([a, b])
 }
 
-// A word of 16 bits from its two bytes, the most significant first.
-fn short(a: u8, b: u8) -> u32
-    ensures { (result ≡ most_first 0 (a ∷ b ∷ [])) × (result < 65536) }
+// The unit times a signed number of 16 bits.
+fn product(w: i16, unit: u32) -> i32
+    requires { unit ≤ 1000 }
+    ensures { result ≡ pos unit *ᶻ w }
 {
-    word(0, 0, a, b)
+    unit as i32 * i32::from(w)
 }
 
 // The value of cell c of a body.
@@ -42,7 +35,7 @@ fn value_at(body: &[u8], unit: u32, c: usize) -> i32
     let a = body[2 * c];
     let b = body[2 * c + 1];
     let w = short(a, b);
-    signed(product(w, unit))
+    product(w, unit)
 }
 
 // Whether the value of cell c of a body is out of its label's range.

@@ -200,10 +200,6 @@ in_run l i n h e = omega (arith, digits_length l)
 pub first_in : (l : List ℕ) (n : ℕ) → 1 ≤ n → n ≡ length (digits l) → 0 < length l
 first_in l n h e = omega (arith, digits_length l)
 
--- ---- a part that goes to the end
-pub rest_is : (l : List ℕ) (k : ℕ) → take (length l - k) (drop k l) ≡ drop k l
-rest_is l k = take_all (length l - k) (drop k l) (omega (arith, length-drop k l))
-
 -- ---- the line of a key and a number
 abbrev given : Option (List ℕ) → List ℕ
 given None = []

@@ -54,6 +54,7 @@ fn three_lines(bytes: &[u8], first: u32, a: &[u8], b: &[u8], c: &[u8]) -> Result
 }
 
 // The order that the value of its line stands for.
+// Kept: a `From` for `Order` would have to stand in crate method, which holds the meaning and no code.
 pub fn order_of(v: u32) -> Order
     ensures { result ≡ order_of v }
 {
