@@ -5,7 +5,6 @@ use mathlib.Core.Path.{◌≡◌, refl, sym, ap, ◌∙◌}
 use mathlib.Core.Bool.{true, ◌&&◌}
 use mathlib.Core.List.{List}
 use native.Mathlib.Omega.{arith}
-use borrow.Author.Rules.{rules}
 use borrow.Rule.Slice.PartMut.{mid_of, put_mid, same_len_mid}
 use lib.Dec.{eqb}
 use lib.IntN.{ℤ}
@@ -25,8 +24,9 @@ use Rattle.method.specs.Many.{AskedMany, SolvedMany, sets_fit, many_lengths_fit,
 use Rattle.theory.proofs.Sides.{fit}
 use Rattle.theory.proofs.Verdicts.{AllPass, all_pass, no_fault, no_fault'}
 use Rattle.grid.proofs.Steps.{cells_most}
-use Rattle.checks.specs.declared.Ruling.{Ruling}
-use Rattle.checks.specs.declared.Ruling.TheVariants.{Refused, Allowed}
+use Rattle.std.specs.Prelude.{Result, Ok, Err}
+use Rattle.answers.specs.declared.Fault.{Fault}
+use Rattle.answers.specs.Faults.{number_of, place_of}
 use Rattle.checks.specs.Rulings.{ruling_of}
 use Rattle.solve.proofs.Judging.{both}
 use Rattle.solve.proofs.Solving.{in_range, needed_bytes, needed_floats, needed_words, home}
@@ -65,7 +65,7 @@ module _ (g : Sides) (ls : List ℕ) (t : Settings) (sets : ℕ) (vs ps rs : Lis
     words = length words;
   }
 
-  ruled : (r : Ruling) → r ≡ many_ruling g ls t sets lengths → verdict many_checks_before7 a ≡ ruling_of r
+  ruled : (r : Result (Unit {0}) Fault) → r ≡ many_ruling g ls t sets lengths → verdict many_checks_before7 a ≡ ruling_of r
   unfolding lengths_of
   ruled r e = many_ruled a ∙ ap ruling_of (sym e)
 
@@ -78,8 +78,8 @@ module _ (g : Sides) (ls : List ℕ) (t : Settings) (sets : ℕ) (vs ps rs : Lis
     pub floats_room : 8 * length ls + 64 ≤ length floats
     pub words_room : 2 * length ls ≤ length words
 
-  pub known : (r : Ruling) → r ≡ many_ruling g ls t sets lengths → r ≡ Allowed → Known
-  unfolding many_checks_before7 ruling_of byte_need float_need word_need
+  pub known : (r : Result (Unit {0}) Fault) → r ≡ many_ruling g ls t sets lengths → r ≡ Ok tt → Known
+  unfolding many_checks_before7 byte_need float_need word_need
   known r e h =
       let fine : verdict many_checks_before7 a ≡ passed = ruled r e ∙ ap ruling_of h in
       let ok = all_pass many_checks_before7 a fine in
@@ -164,10 +164,10 @@ module _ (g : Sides) (ls : List ℕ) (t : Settings) (sets : ℕ) (vs ps rs : Lis
           }
 
   -- refused before 7: nothing lent is changed
-  pub refused_is : (r : Ruling) (num place : ℕ) (w : Answer) → r ≡ many_ruling g ls t sets lengths → r ≡ Refused num place → w ≡ refusal num place → SolveManyOf a w ps rs bytes floats words
-  unfolding ruling_of many_untouched
-  refused_is r num place w e h q =
-      let s : solving_many a ≡ many_untouched a (refusal num place) = before_seven a num place (ruled r e ∙ ap ruling_of h) in
+  pub refused_is : (r : Result (Unit {0}) Fault) (e : Fault) (w : Answer) → r ≡ many_ruling g ls t sets lengths → r ≡ Err e → w ≡ refusal (number_of e) (place_of e) → SolveManyOf a w ps rs bytes floats words
+  unfolding many_untouched
+  refused_is r e w v h q =
+      let s : solving_many a ≡ many_untouched a (refusal (number_of e) (place_of e)) = before_seven a (number_of e) (place_of e) (ruled r v ∙ ap ruling_of h) in
       record {
         answer = q ∙ sym (ap (λ (x : SolvedMany). x.answer) s);
         pressures = sym (ap (λ (x : SolvedMany). x.pressures) s);
@@ -176,5 +176,3 @@ module _ (g : Sides) (ls : List ℕ) (t : Settings) (sets : ℕ) (vs ps rs : Lis
         float_room = sym (ap (λ (x : SolvedMany). x.floats) s);
         word_room = sym (ap (λ (x : SolvedMany). x.words) s);
       }
-
-pub ruleset many_solves = (rules, refused_is)

@@ -1,16 +1,13 @@
 -- One set: its checks, and what its rounds come to, are the single call's. Assumes nothing.
-use Prim.Native.Nat.{ℕ, ◌^◌, ◌≤◌, ◌<◌}
+use Prim.Native.Nat.{ℕ, ◌≤◌}
 use mathlib.Core.Path.{◌≡◌, refl, sym, ap, ◌∙◌}
 use mathlib.Core.Bool.{true, not}
-use mathlib.Core.List.{List, [], ◌∷◌}
+use mathlib.Core.List.{List}
 use native.Mathlib.Omega.{arith}
 use borrow.Author.Rules.{rules}
 use lib.Dec.{eqb}
-use lib.IntN.{ℤ, pos}
-use lib.ListN.{length, set}
-use mir.Syntax.{w32, w64}
-use mir.Val.{SFits, to_z, of_z}
-use mir.Facts.{to_z_pos, to_z-of_z}
+use lib.IntN.{ℤ}
+use lib.ListN.{length}
 use Rattle.method.specs.declared.Sides.{Sides}
 use Rattle.method.specs.declared.Settings.{Settings}
 use Rattle.method.specs.declared.Answer.{Answer}
@@ -34,8 +31,7 @@ use Rattle.solve.specs.Work.{RunAsked, Ran, Worked}
 use Rattle.solve.proofs.Working.{worked_run}
 use Rattle.solve.proofs.Judging.{both}
 use Rattle.solve.proofs.Solving.{in_range, past_six, before_seven}
-use Rattle.method.specs.Many.{fields, field_count}
-use Rattle.many_sets.specs.Sets.{four_at, Past, CastReady, SameSet, SetOf}
+use Rattle.many_sets.specs.Sets.{Past, CastReady, SameSet, SetOf}
 
 -- ---- what the rounds ask
 module _ (t : Settings) (e : settings_fit t ≡ true) where

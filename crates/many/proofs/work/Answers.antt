@@ -1,6 +1,5 @@
 use mathlib.Core.Path.{refl, ◌∙◌}
 use Rattle.many.proofs.ManyWorking.{search_room, count_fit, prepare_asked, cast_ready, worked_refused, worked_sets}
-use borrow.Author.Rules.{rules}
 use Rattle.many.proofs.work.Goals as goal
 
 pub distances-walked-requires : goal.distances-walked-requires
@@ -19,10 +18,10 @@ all_sets-requires c = record {
 }
 
 pub returns-in-Some : goal.returns-in-Some
-returns-in-Some c = search (rules, worked_refused)
+returns-in-Some c = worked_refused _ _ _ _ _ _ _ _ _ c.distances-walked.ensures.sealed_is _ c.in-Some.is c.from.ensures
 
 pub shape_of-words-in-None : goal.shape_of-words-in-None
 shape_of-words-in-None c = c.prepare-plan.auto.words ∙ c.distances-walked.auto.room
 
 pub returns-in-None : goal.returns-in-None
-returns-in-None c = worked_sets _ _ _ _ _ _ _ _ _ c.distances-walked.ensures.sealed_is _ _ c.in-None.is c.refusal-in-None.ensures c.all_sets.ensures
+returns-in-None c = worked_sets _ _ _ _ _ _ _ _ _ c.distances-walked.ensures.sealed_is _ _ c.in-None.is c.refusal.ensures c.all_sets.ensures
