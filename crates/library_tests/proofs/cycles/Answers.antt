@@ -6,22 +6,16 @@ use Rattle.library_tests.proofs.cycles.Goals as goal
 pub cycle-requires : goal.cycle-requires
 cycle-requires c = search again
 
-pub loop-i-init : goal.loop-i-init
-loop-i-init c = search again
+pub loop-init : goal.loop-init
+loop-init c = search again
 
-pub cycle-requires-in-loop-i : goal.cycle-requires-in-loop-i
-cycle-requires-in-loop-i c = search again
+pub cycle-requires-in-loop : goal.cycle-requires-in-loop
+cycle-requires-in-loop c = search again
 
-pub overflow_add-i : goal.overflow_add-i
-overflow_add-i c = search again
-
-pub loop-i-smaller : goal.loop-i-smaller
-loop-i-smaller c = search again
-
-pub loop-i-preserved : goal.loop-i-preserved
-loop-i-preserved c =
+pub loop-preserved : goal.loop-preserved
+loop-preserved c =
     let a = c.args in
-    (search again, (search again, cycled_end a.l a.bytes.now a.count 0 _ _ c.loop-i.invariant.1.1 c.cycle-in-loop-i.ensures))
+    (search again, (search again, cycled_end a.l a.bytes.now a.count 0 _ _ c.loop.invariant.1.1 c.cycle-in-loop.ensures))
 
 pub shape_of-room : goal.shape_of-room
 shape_of-room c = search again

@@ -23,20 +23,8 @@ returns-then-words-n c = search calling
 pub distances-w-requires : goal.distances-w-requires
 distances-w-requires c = search calling
 
-pub enum_known-sealed : goal.enum_known-sealed
-enum_known-sealed c = search calling
-
-pub enum_told-1 : goal.enum_told-1
-enum_told-1 c = search calling
-
-pub shape_of-words-in-Some : goal.shape_of-words-in-Some
-shape_of-words-in-Some c = search calling
-
 pub returns-in-Some : goal.returns-in-Some
 returns-in-Some c = search calling
-
-pub shape_of-words-in-None : goal.shape_of-words-in-None
-shape_of-words-in-None c = search calling
 
 pub returns-in-None : goal.returns-in-None
 returns-in-None c = search calling
