@@ -32,7 +32,7 @@ use Rattle.theory.proofs.Quiet.{quiet_residue, quiet_descending, quiet_times}
 use Rattle.grid.specs.Entries.{cells_of}
 use Rattle.smooth.specs.Fields.{u_of, b_of, t_of, Level, Laid}
 use Rattle.smooth.specs.Sweeps.{swept_up, swept_down}
-use Rattle.smooth.specs.Entries.{AllRead, InCells, EntryLevel}
+use Rattle.smooth.specs.Entries.{AllRead, EntryLevel}
 use Rattle.smooth.proofs.Fields.{laid, laid_u, laid_b, laid_t, laid_rest, laid_follows}
 use Rattle.smooth.proofs.After.{after_jacobi, after_residual, zeros_length, in_air_length, swept_up_length, swept_down_length}
 use Rattle.smooth.proofs.EntryLaws.{all_read, waves_entries, entries_ascending, entries_descending}
@@ -250,12 +250,6 @@ module _ (g : Sides) (ls es : List ℕ) (e : List Float) (z : Level g ls e) (n :
 module _ (g : Sides) (ls es : List ℕ) (e : List Float) (z : Level g ls e) (a : AirList g ls es) where
   pub air_reads : Ended (3 * cells g) e → AllRead (length ls) g.nx (g.nx * g.ny) (length e - 1) (length e) es
   air_reads n = all_read g ls (length ls) g.nx (g.nx * g.ny) (length e - 1) (length e) es a.entries (omega (arith, n.spare, z.labelled)) (omega (arith, n.spare))
-
-  pub air_cells : InCells (length ls) es
-  air_cells = record { at = λ k h. omega (arith, (a.entries.at k h).here, z.labelled) }
-
-  pub two_in : 2 * length ls ≤ length e
-  two_in = omega (arith, z.labelled, z.roomy)
 
 -- ---- THE STROKES
 module _ (g : Sides) (ls es : List ℕ) (e d x : List Float) (z : Level g ls e) (long : length d ≡ length e) where

@@ -33,6 +33,7 @@ pub fn end_in_zero(room: &mut [f64])
 
 // One sweep over a list of entries, forward or against the list's order. The labels say what the entries are of, and
 // are not read.
+// Kept: forward is a bool and no enum, since the coarsest level's is a comparison, and an enum made of it says no more.
 fn sweep(room: &mut [f64], labels: &[u8], list: &[u32], g: Sides, forward: bool)
     requires { EntryLevel g labels.now list.now room.old }
     ensures room_after { value room.new (length room.new - 1) ≡ +0 }

@@ -7,8 +7,8 @@ use mathlib.Core.List.{List, [], ◌∷◌, ◌++◌, map}
 use native.Mathlib.Omega.{arith}
 use lib.Dec.{T, eqb}
 use lib.ListN.{length, get_or, set, take, drop, length-append, length-map, get_or-map}
-use lib.Seq.{get_or-set_other, get_or-take, get_or-append_seam, take_all, take_at, take-take}
-use lib.Ieee.{Float, nan, binary64, fits, of_bits}
+use lib.Seq.{get_or-take, get_or-append_seam, take_all, take_at, take-take}
+use lib.Ieee.{Float, binary64, fits, of_bits}
 use borrow.Author.Rules.{rules}
 use borrow.Author.Tests.{eqb-true, eq-eqb, ne_eqb}
 use Rattle.laws.specs.Binary64.{◌⊕◌, ◌⊖◌, ◌⊗◌, ◌⊘◌, +0, ofℕ}
@@ -167,9 +167,6 @@ module _ (g : Sides) (ls : List ℕ) (n nx plane e : ℕ) (h : Entry g ls n nx p
       let l : c < length ls = omega (arith, h.here, h.labelled) in
       relax_air g ls c s h.labelled h.here (get_or_any ls c 0 2 l ∙ eqb-true (get_or ls c 2) 0 h.air) (ap ofℕ d_of)
       (ap (λ m. value s (m + c) ⊖ (ofℕ (e / 2097152) ⊗ value s c ⊖ sum)) len ∙ rest_is g ls s c (e / 2097152) (value s (length ls + c)) sum d_of k)
-
-pub zero_kept : (s : List Float) (c z : ℕ) (x : Float) → c < z → value s z ≡ +0 → value (set s c x) z ≡ +0
-zero_kept s c z x l h = get_or-set_other s c z x nan (λ e. omega arith) ∙ h
 
 -- ---- sweeps
 pub reads_at : {n nx plane z len : ℕ} {es : List ℕ} (k : ℕ) → AllRead n nx plane z len es → k < length es → Reads n nx plane (get_or es k 0)

@@ -6,7 +6,7 @@ use mathlib.Core.List.{List, ◌++◌}
 use native.Mathlib.Omega.{arith}
 use borrow.Author.Rules.{rules}
 use lib.Dec.{T}
-use lib.ListN.{length, get_or, set, take, drop, length-append, length-drop}
+use lib.ListN.{length, get_or, set, take, drop, length-append}
 use lib.Seq.{get_or-take, get_or-drop, drop-set-lt, take-set-le, drop-set-add}
 use lib.Ieee.{Float, nan, binary64, fits, of_bits, div}
 use Rattle.laws.specs.Binary64.{◌⊕◌, ◌⊖◌, ◌⊗◌, ◌⊘◌, +0, ofℕ}
@@ -40,15 +40,6 @@ pub beyond : (k : ℕ) (r s : List Float) (j : ℕ) → drop k r ≡ drop k s �
 beyond k r s j e h =
     let q : k + (j - k) ≡ j = omega arith in
     ap (value r) (sym q) ∙ sym (get_or-drop k r (j - k) nan) ∙ ap (λ l. value l (j - k)) e ∙ get_or-drop k s (j - k) nan ∙ ap (value s) q
-
--- the zero of a part that is lent to the room's end
-pub part_zero : (r : List Float) (from z : ℕ) → from ≤ z → value r z ≡ +0 → value (take (length r - from) (drop from r)) (z - from) ≡ +0
-part_zero r from z h e =
-    let q : from + (z - from) ≡ z = omega arith in
-    ap (λ l. value l (z - from)) (part_is r from) ∙ get_or-drop from r (z - from) nan ∙ ap (value r) q ∙ e
-
-pub part_inside : (r : List Float) (from z n : ℕ) → from + n ≤ z → z < length r → (n ≤ z - from) × (z - from < length (take (length r - from) (drop from r)))
-part_inside r from z n h l = (omega arith, omega (arith, ap length (part_is r from), length-drop from r))
 
 -- ---- at one entry's cell
 module _ (g : Sides) (ls : List ℕ) (n nx plane e : ℕ) (h : Entry g ls n nx plane e) where
@@ -156,9 +147,6 @@ module _ (n : ℕ) (s m : List Float) (h : 3 * n ≤ length s) where
       }
 
 module _ (n nx plane z : ℕ) (es : List ℕ) (s m : List Float) where
-  pub kept_zero : m ≡ take (2 * n) s ++ (take n s ++ drop (3 * n) s) → AllRead n nx plane z (length s) es → value s z ≡ +0 → value m z ≡ +0
-  kept_zero e r q = zero_stays (3 * n) s m z (laid_follows (kept_laid n s m (omega (arith, r.fields, r.zero_in)) e)) r.fields q
-
   pub cleared_zero : m ≡ take (2 * n) s ++ (tab n (λ c. +0) ++ drop (2 * n + n) s) → AllRead n nx plane z (length s) es → value s z ≡ +0 → value m z ≡ +0
   cleared_zero e r q = zero_stays (3 * n) s m z (laid_follows (cleared_laid n s m (omega (arith, r.fields, r.zero_in)) e)) r.fields q
 

@@ -22,6 +22,7 @@ fn pick_back(e: u32, unit: u32, c: usize, step: usize, zero: usize) -> usize
 }
 
 // The same one step on.
+// Kept: beside pick_back, since a step back asks that it fits below and a step on that it fits above the cell.
 fn pick_on(e: u32, unit: u32, c: usize, step: usize, zero: usize) -> usize
     requires { (0 < unit) × (e / unit % 2 ≡ 1 → c + step < zero) }
     ensures value { result ≡ picked (e / unit % 2) (c + step) zero }
