@@ -11,17 +11,15 @@ use mir.Val.{Fits}
 use lib.ListN.{length, drop, length-drop}
 use lib.Seq.{drop-drop}
 use Rattle.laws.specs.Text.{text}
-use Rattle.method.specs.declared.Sides.{Sides}
 use Rattle.method.specs.Cast.{between}
 use Rattle.method.specs.Form.{Line, wrong, right, more, read_lines}
 use Rattle.method.specs.OldForm.{number_to, old_parts, line_of_part, old_header_of, old_header, old_wrong_line, old_bad_line, unit_fits}
 use Rattle.session_header.specs.Lines.{LineOf}
-use Rattle.std.specs.Prelude.{Option, Some, None, Result, Ok, Err, ok_or}
+use Rattle.std.specs.Prelude.{Option, Some, None, Ok, Err, ok_or}
 use Rattle.session_header.specs.declared.Read.{Read}
 use Rattle.session_header.proofs.HeaderLaws.{told, read_bad, read_good, line_good, line_bad, line_within}
 use Rattle.old_header.specs.OldLines.{OldHeaderOf, old_header_in, old_wrong_in, old_start_in, unit_part, with_size, NoSize, SizeIs, SizeOf}
 use Rattle.old_header.specs.declared.Size.{Size}
-use Rattle.old_header.specs.declared.OldHeader.{OldHeader}
 
 abbrev size_part : List ℕ → Line
 size_part = number_to (text "x") (text "size=")

@@ -7,7 +7,7 @@ use native.Mathlib.Nat.{mul-le-mul}
 use native.Mathlib.Omega.{arith}
 use borrow.Author.Rules.{rules}
 use lib.Dec.{ltb}
-use lib.ListN.{length, get_or, take, drop}
+use lib.ListN.{length, get_or}
 use lib.IntN.{ℤ, pos, negsuc, nat_abs, ◌*ℤ◌}
 use lib.Signed.{mag, nat_abs-le}
 use mir.Syntax.{w16, w32}

@@ -1,6 +1,6 @@
 -- Laws of the writer: check 13 by sizes, lengths, the checks in their order, and what it makes of a judgement. Assumes
 -- nothing.
-use mathlib.Core.Path.{◌≡◌, refl, sym, ap, ap₂, ◌∙◌}
+use mathlib.Core.Path.{◌≡◌, refl, sym, ap, ◌∙◌}
 use mathlib.Core.Logic.{⊎_elim}
 use mathlib.Core.Bool.{Bool, true, false, not, ◌&&◌, false≢true}
 use mathlib.Core.List.{List, ◌++◌}
@@ -29,8 +29,7 @@ use Rattle.theory.specs.Sides.{Fit}
 use Rattle.theory.proofs.Sides.{fit}
 use Rattle.theory.proofs.Verdicts.{verdict_agree, passes_on, fault_no}
 use Rattle.theory.proofs.OldRoundTrip.{unit_from}
-use Rattle.checks.specs.Faults.{cell_ruling}
-use Rattle.checks.specs.Rulings.{ruling_of, ruling_by, unless, first_of}
+use Rattle.checks.specs.Rulings.{ruling_of, ruling_by, unless}
 use Rattle.answers.specs.Faults.{number_of, place_of}
 use Rattle.answers.specs.declared.Fault.{Fault}
 use Rattle.answers.specs.declared.Fault.TheVariants.{SideOutOfRange, WrongLength, SettingOutOfRange, Inexpressible}

@@ -11,8 +11,8 @@ use borrow.Author.Tests.{eqb-true, eq-eqb, ne_eqb, le-leb, lt-leb, leb-true, not
 use lib.Dec.{eqb, leb}
 use mir.Syntax.{w64}
 use mir.Val.{Fits}
-use lib.ListN.{length, get_or, take, drop, length-drop, drop_of_length-le}
-use lib.Seq.{drop-cons, drop-drop, take_all}
+use lib.ListN.{length, get_or, drop, length-drop, drop_of_length-le}
+use lib.Seq.{drop-cons, drop-drop}
 use Rattle.laws.specs.Text.{text}
 use Rattle.method.specs.Cast.{between}
 use Rattle.method.specs.Numbers.{digits, is_digit, is_number, value_of}

@@ -1,20 +1,19 @@
 -- Laws of words, signed numbers, the bytes of a value, and values stored one a turn. Assumes nothing.
 use mathlib.Core.Path.{◌≡◌, refl, sym, ap, ap₂, ◌∙◌}
-use mathlib.Core.Bool.{Bool, true, false, cond, true≢false}
-use mathlib.Core.List.{List, [], ◌∷◌, ◌++◌, reverse}
-use Prim.Native.Nat.{ℕ, zero, suc, ◌+◌, ◌-◌, ◌*◌, ◌≤◌, ◌<◌}
+use mathlib.Core.Bool.{Bool, true, false, cond}
+use mathlib.Core.List.{List, [], ◌∷◌, ◌++◌}
+use Prim.Native.Nat.{ℕ, suc, ◌+◌, ◌-◌, ◌*◌, ◌≤◌, ◌<◌}
 use native.Mathlib.Numerals.{add-one}
 use native.Mathlib.Omega.{arith}
 use borrow.Author.Rules.{rules}
-use borrow.Author.Tests.{lt-ltb, le-ltb}
-use lib.Dec.{T, ltb}
-use lib.ListN.{length, get_or, set, take, drop, length-set}
+use lib.Dec.{ltb}
+use lib.ListN.{length, get_or, set, take, drop}
 use lib.Seq.{drop-cons, set_at, append_snoc}
-use lib.IntN.{ℤ, pos, negsuc, nat_abs, ◌-ℤ◌}
+use lib.IntN.{ℤ, pos, negsuc, nat_abs}
 use Rattle.std.specs.Int.{from_be_bytes}
 use mir.Syntax.{w32}
-use mir.Val.{Fits, SFits, to_z, of_z}
-use mir.Facts.{to_z-of_z, to_z_pos, sfits_to_z}
+use mir.Val.{SFits, to_z, of_z}
+use mir.Facts.{to_z-of_z}
 use Rattle.laws.specs.Lists.{tab}
 use Rattle.laws.proofs.Lists.{get_or_any, length_tab}
 use Rattle.laws.proofs.Fill.{tab_snoc}
