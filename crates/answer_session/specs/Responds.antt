@@ -9,6 +9,7 @@ use Rattle.method.specs.Rooms.{byte_need, float_need, word_need}
 use Rattle.method.specs.Program.{program_checks, printed}
 use Rattle.session_header.specs.declared.HeaderRead.{HeaderRead}
 use Rattle.session_header.specs.declared.HeaderRead.TheVariants.{Wrong, Named}
+use Rattle.answer_session.specs.declared.Lent.{Lent}
 use Rattle.answer_print.specs.Shows.{print_room, PutShort}
 use Rattle.prints.specs.Prints.{crowded, buffer_for}
 
@@ -20,6 +21,10 @@ pub record Roomy (limit values pressures bytes floats words output : ℕ) : Type
   pub floats_long : float_need limit ≤ floats
   pub words_long : word_need limit ≤ words
   pub output_long : print_room limit ≤ output
+
+-- the same, of what the solver is lent
+abbrev pub RoomFor : ℕ → ℕ → Lent → ℕ → Type 0
+RoomFor limit values lent output = Roomy limit values (length lent.pressures.now) (length lent.bytes.now) (length lent.floats.now) (length lent.words.now) output
 
 -- sides in range but more cells than there is room for, by what a header was read to be
 unfoldable pub crowded_by : ℕ → HeaderRead → Bool
