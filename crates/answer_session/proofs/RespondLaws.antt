@@ -3,7 +3,7 @@
 use mathlib.Core.Path.{◌≡◌, sym, ap, ap₂, ◌∙◌}
 use mathlib.Core.Bool.{Bool, true, false, ◌&&◌}
 use mathlib.Core.List.{List, []}
-use Prim.Native.Nat.{ℕ, ◌+◌, ◌-◌, ◌*◌, ◌^◌, ◌<◌, ◌≤◌}
+use Prim.Native.Nat.{ℕ, ◌+◌, ◌-◌, ◌*◌, ◌≤◌}
 use native.Mathlib.Omega.{arith}
 use borrow.Author.Rules.{rules}
 use borrow.Author.Tests.{eq-eqb, le-leb, ltb-false, eqb-true}
@@ -11,8 +11,6 @@ use lib.Dec.{ltb, eqb}
 use lib.IntN.{ℤ, pos}
 use lib.Ieee.{Float}
 use lib.ListN.{length, take, drop, replicate, length-replicate, length-drop}
-use mir.Syntax.{w64}
-use mir.Val.{Fits}
 use lib.Seq.{take_at, length-take-le}
 use Rattle.laws.specs.Binary64.{+0}
 use Rattle.laws.proofs.Lists.{length_tab}
@@ -100,10 +98,7 @@ crowded_put bs limit t x a ps w u j h e q f l p =
 pub not_crowded : (bs : List ℕ) (limit : ℕ) (t : Bool) (x : HeaderRead) → HeaderOf bs x → t ≡ crowded_by limit x → t ≡ false → crowded limit bs ≡ false
 not_crowded bs limit t x h e q = sym (e ∙ crowded_by_lem bs limit x h) ∙ q
 
-pub no_room : (limit m : ℕ) → print_room limit ≤ m → 160 ≤ m
-no_room limit m h = omega arith
-
-pub ruleset responses = (rules, crowded_put, not_crowded, no_room)
+pub ruleset responses = (rules, crowded_put, not_crowded)
 
 -- ---- a session that is read
 -- the lengths that the solver asks for
@@ -187,7 +182,7 @@ module _ (limit : ℕ) (bs : List ℕ) (old new : List ℤ) (s : Session) (z : R
             are = ap₂ (λ n k. take n (drop k bs)) (ap cells g) here ∙ ap (take (cells (header bs).sides)) (sym body);
           }
 
-pub ruleset answers = (rules, no_room, refused_put, read_passed, read_labels)
+pub ruleset answers = (rules, refused_put, read_passed, read_labels)
 
 -- ---- and solved
 module _ (limit : ℕ) (bs : List ℕ) (s : Sides) (t : Settings) (vs : List ℤ) (z : IsRead limit bs s t vs) where
@@ -237,12 +232,6 @@ module _ (limit : ℕ) (bs : List ℕ) (s : Sides) (t : Settings) (vs : List ℤ
     solved_room = omega (arith, part_pressures, count_few, room.output_long)
 
     module _ (start : ℕ) (at : LabelsAt bs s start) where
-      pub part_fits : length bs < 2 ^ 64 → Fits w64 (start + n)
-      part_fits h = record { fits = omega (arith, c, at.within) }
-
-      pub part_within : start + n ≤ length bs
-      part_within = omega (arith, c, at.within)
-
       labels_are : take (start + n - start) (drop start bs) ≡ labels_in (header bs)
       labels_are = let m : start + n - start ≡ cells s = omega (arith, c) in ap (λ k. take k (drop start bs)) m ∙ at.are
 
@@ -282,4 +271,4 @@ module _ (limit : ℕ) (bs : List ℕ) (s : Sides) (t : Settings) (vs : List ℤ
       pub solved_is : (u : List ℕ) (j : ℕ) → PutShort (print_room (length (take n ps))) (shown (solving called)) out 0 u j → PutShort (print_room limit) (printed limit bs) out 0 u j
       solved_is u j p = as_printed limit bs (take n ps) (shown (solving called)) out u j (sym same_print) (omega (arith, part_pressures, count_few)) p
 
-pub ruleset parts = (rules, read_fit, in_values, part_values, in_pressures, part_pressures, solved_room, part_fits, part_within, solved_is)
+pub ruleset parts = (rules, read_fit, in_values, part_values, in_pressures, part_pressures, solved_room, solved_is)
