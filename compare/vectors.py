@@ -260,7 +260,7 @@ def piece_vector(separate, rng, name):
         return Vector(name, f"tab {n} (in_band {s} {ls})", bools(separate.piece(name, head)), story)
     if name == "depth":
         word, number = separate.piece(name, head)
-        found = f"At {number}" if word == "sealed" else "Nowhere"
+        found = f"Some {number}" if word == "sealed" else "None"
         if word == "sealed":
             return Vector(name, f"sealed {s} {ls}", found, f"{story} sealed")
         return Vector(name, f"depth {s} {ls}", number, story)
@@ -294,7 +294,7 @@ def tick_vector(separate, rng):
     ties = [rng.choice([1, -1]) * (2.0 ** rng.randint(1, 41) + rng.choice([-0.5, 0.5, 1.5])) for _ in range(8)]
     xs = [bits_of(x) for x in near + edge + ties]
     want = separate.piece("tick", [1, 1, 1, 0] + xs)
-    return Vector("tick", f"map tick {floats(xs)}", listed("Refused" if w == "none" else f"Whole ({whole_term(int(w))})" for w in want), "ticks")
+    return Vector("tick", f"map tick {floats(xs)}", listed("None" if w == "none" else f"Some ({whole_term(int(w))})" for w in want), "ticks")
 
 
 def require(condition, what):
@@ -330,17 +330,13 @@ def all_vectors(separate, seed, casts, sessions, pieces):
 
 # ---------------------------------------------------------------- the temporary repository
 
-USES = """use Rattle.std.specs.Prelude.{◌≡◌, refl, true, false, cond, [], ◌∷◌, map, replicate, pos, negsuc}
+USES = """use Rattle.std.specs.Prelude.{◌≡◌, refl, true, false, cond, [], ◌∷◌, map, replicate, pos, negsuc, Some, None}
 use Rattle.std.specs.Float.{nan, inf, fin}
 use Rattle.laws.specs.Lists.{tab}
 use Rattle.laws.specs.Text.{text}
 use Rattle.method.specs.declared.Sides.{Sides}
 use Rattle.method.specs.declared.Order.{Order}
 use Rattle.method.specs.declared.Order.TheVariants.{Big, Little}
-use Rattle.method.specs.declared.Found.{Found}
-use Rattle.method.specs.declared.Found.TheVariants.{Nowhere, At}
-use Rattle.method.specs.declared.Tick.{Tick}
-use Rattle.method.specs.declared.Tick.TheVariants.{Whole, Refused}
 use Rattle.method.specs.Cast.{is_air, field, residual}
 use Rattle.method.specs.Walks.{depth, sealed}
 use Rattle.method.specs.Levels.{coarse}

@@ -13,8 +13,7 @@ use Rattle.method.specs.Ticks.{rounded}
 use Rattle.method.specs.Computing.{computing}
 use Rattle.theory.proofs.Sides.{fit}
 use Rattle.method.proofs.Cases.{row, cast, ½}
-use Rattle.acceptance.specs.declared.Tested.{Tested}
-use Rattle.acceptance.specs.declared.Tested.TheVariants.{Passed, Failed}
+use Rattle.std.specs.Prelude.{Option, Some, None}
 use Rattle.ticks.specs.Faces.{Residual}
 use Rattle.acceptance.specs.Trial.{Asked, tested}
 use Rattle.acceptance.specs.Cells.{rounded_on}
@@ -43,18 +42,18 @@ case_asked x = record {
 }
 
 -- c: before the first round, with tolerance 1, the worst is 1 and the air cell 0
-pub case_c : (r : Tested) (p : List ℤ) → r ≡ tested (cast 3 labels values) (within 1) (at +0) → p ≡ rounded (cast 3 labels values) (at +0)
-    → (r ≡ Passed 1) × (p ≡ pos 0 ∷ pos 0 ∷ pos 0 ∷ [])
+pub case_c : (r : Option ℕ) (p : List ℤ) → r ≡ tested (cast 3 labels values) (within 1) (at +0) → p ≡ rounded (cast 3 labels values) (at +0)
+    → (r ≡ Some 1) × (p ≡ pos 0 ∷ pos 0 ∷ pos 0 ∷ [])
 unfolding tested computing
 case_c r p h k = (h, k)
 
 -- a, b: with tolerance 0 it fails, and after a round, where x is a half, too: the tick 1 leaves -1
-pub case_a : (r q : Tested) → r ≡ tested (cast 3 labels values) (within 0) (at +0) → q ≡ tested (cast 3 labels values) (within 0) (at ½) → (r ≡ Failed) × (q ≡ Failed)
+pub case_a : (r q : Option ℕ) → r ≡ tested (cast 3 labels values) (within 0) (at +0) → q ≡ tested (cast 3 labels values) (within 0) (at ½) → (r ≡ None) × (q ≡ None)
 unfolding tested computing
 case_a r q h k = (h, k)
 
 -- a NaN fails whatever the tolerance
-pub case_nan : (r : Tested) (t : ℕ) → r ≡ tested (cast 3 labels values) (within t) (at nan) → r ≡ Failed
+pub case_nan : (r : Option ℕ) (t : ℕ) → r ≡ tested (cast 3 labels values) (within t) (at nan) → r ≡ None
 unfolding tested computing
 case_nan r t h = h
 
@@ -97,11 +96,11 @@ unfolding computing
 case_f_off_code r q h k = (h.is, k.is)
 
 -- so the test finds 0 of the one, and of the other 2, within 2 and not within 1
-pub case_f_test : (r : Tested) → r ≡ tested (cast 4 labels_f values_f) (within 0) (slope 10) → r ≡ Passed 0
+pub case_f_test : (r : Option ℕ) → r ≡ tested (cast 4 labels_f values_f) (within 0) (slope 10) → r ≡ Some 0
 unfolding tested computing
 case_f_test r h = h
 
-pub case_f_off_test : (r q : Tested) → r ≡ tested (cast 4 labels_f values_f) (within 2) (slope 9) → q ≡ tested (cast 4 labels_f values_f) (within 1) (slope 9)
-    → (r ≡ Passed 2) × (q ≡ Failed)
+pub case_f_off_test : (r q : Option ℕ) → r ≡ tested (cast 4 labels_f values_f) (within 2) (slope 9) → q ≡ tested (cast 4 labels_f values_f) (within 1) (slope 9)
+    → (r ≡ Some 2) × (q ≡ None)
 unfolding tested computing
 case_f_off_test r q h k = (h, k)

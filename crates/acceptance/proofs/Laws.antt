@@ -26,14 +26,11 @@ use Rattle.laws.proofs.Fills.{filled_front}
 use Rattle.laws.proofs.Loops.{Up, ups, up_first, up_more, up_end}
 use Rattle.method.specs.declared.Sides.{Sides}
 use Rattle.method.specs.declared.Settings.{Settings}
-use Rattle.method.specs.declared.Found.{Found}
-use Rattle.method.specs.declared.Found.TheVariants.{Nowhere, At}
-use Rattle.method.specs.declared.Tick.{Tick}
-use Rattle.method.specs.declared.Tick.TheVariants.{Whole, Refused}
+use Rattle.std.specs.Prelude.{Option, None, Some, is_some}
 use Rattle.method.specs.Cast.{cells, label_at, is_air, is_opening, field, level, judged, residual, worst, or_else, first}
 use Rattle.method.specs.Transfers.{value}
 use Rattle.method.specs.Ticks.{tick, ticks, is_refused, whole_of, rounded, passes}
-use Rattle.theory.proofs.Firsts.{None, none_none, none_end, hit, first_cong}
+use Rattle.theory.proofs.Firsts.{NoneBelow, none_none, none_end, hit, first_cong}
 use Rattle.theory.proofs.Pressures.{length_rounded}
 use Rattle.grid.proofs.Steps.{label_out}
 use Rattle.signed_numbers.proofs.Laws.{wholes, abs_32}
@@ -41,7 +38,6 @@ use Rattle.ticks.specs.declared.Faces.{Faces}
 use Rattle.ticks.specs.Worst.{worst_step}
 use Rattle.ticks.proofs.TickWhole.{tick_within}
 use Rattle.ticks.proofs.Laws.{walks, Gathering, gathering_next, count_open, count_wall, sum_open, sum_wall, worst_is}
-use Rattle.acceptance.specs.declared.Tested.TheVariants.{Passed, Failed}
 use Rattle.acceptance.specs.Trial.{tested}
 use Rattle.acceptance.specs.Cells.{rounded_on, pressure_by, Pressure, Added, refused_at}
 
@@ -50,9 +46,9 @@ whole_within : (x : Float) → nat_abs (whole_of (tick x)) ≤ 2 ^ 41
 unfolding whole_of
 whole_within x = go (tick x) refl
   where
-    go : (t : Tick) → tick x ≡ t → nat_abs (whole_of t) ≤ 2 ^ 41
-    go (Whole z) e = tick_within x z e
-    go Refused e = omega arith
+    go : (t : Option ℤ) → tick x ≡ t → nat_abs (whole_of t) ≤ 2 ^ 41
+    go (Some z) e = tick_within x z e
+    go None e = omega arith
 
 wall_is : (l : ℕ) (v : ℤ) (x : Float) → 2 ≤ l → pos 0 ≡ pressure_by l v x
 unfolding pressure_by
@@ -83,7 +79,7 @@ unfolding tab
 map_tab f zero h = refl
 map_tab f (suc n) h = ap (◌∷◌ (f (h 0))) (map_tab f n (λ k. h (suc k)))
 
-by_label : (l : ℕ) (v : ℤ) (x : Float) → whole_of (cond (eqb l 0) (tick x) (Whole (cond (eqb l 1) v (pos 0)))) ≡ pressure_by l v x
+by_label : (l : ℕ) (v : ℤ) (x : Float) → whole_of (cond (eqb l 0) (tick x) (Some (cond (eqb l 1) v (pos 0)))) ≡ pressure_by l v x
 unfolding whole_of pressure_by
 by_label zero v x = refl
 by_label (suc zero) v x = refl
@@ -121,15 +117,15 @@ any_up p zero f b = or_false b
 any_up p (suc n) f b = up_first (λ c s. s || p (f c)) n b ∙ any_up p n (λ k. f (suc k)) (b || p (f 0)) ∙ or_assoc b (p (f 0)) (any p (tab n (λ k. f (suc k))))
 
 -- .. and some element passes where there is a first that does
-met : Found → Bool
-met Nowhere = false
-met (At c) = true
+met : Option ℕ → Bool
+met None = false
+met (Some c) = true
 
-met_else : (f : Found) (b : Bool) (n : ℕ) → (met f || b) ≡ met (or_else f (cond b (At n) Nowhere))
+met_else : (f : Option ℕ) (b : Bool) (n : ℕ) → (met f || b) ≡ met (or_else f (cond b (Some n) None))
 unfolding or_else met
-met_else (At c) b n = refl
-met_else Nowhere true n = refl
-met_else Nowhere false n = refl
+met_else (Some c) b n = refl
+met_else None true n = refl
+met_else None false n = refl
 
 any_first : {A : Type 0} (p : A → Bool) (n : ℕ) (f : ℕ → A) → any p (tab n f) ≡ met (first (λ c. p (f c)) n)
 unfolding up first met
@@ -139,7 +135,7 @@ any_first p n f = sym (any_up p n f false) ∙ go n
     go zero = refl
     go (suc n) = ap (λ b. b || p (f n)) (go n) ∙ met_else (first (λ c. p (f c)) n) (p (f n)) n
 
-refused_cond : (air : Bool) (t : Tick) (z : ℤ) → is_refused (cond air t (Whole z)) ≡ (air && is_refused t)
+refused_cond : (air : Bool) (t : Option ℤ) (z : ℤ) → is_refused (cond air t (Some z)) ≡ (air && is_refused t)
 unfolding is_refused
 refused_cond true t z = refl
 refused_cond false t z = refl
@@ -148,27 +144,29 @@ some_refused : (g : Sides) (ls : List ℕ) (vs : List ℤ) (x : List Float) → 
     → any is_refused (ticks (record { sides = g; labels = ls; values = vs }) x) ≡ met (first (refused_at ls x) (length ls))
 unfolding refused_at ticks
 some_refused g ls vs x e =
-    any_first is_refused (cells g) (λ c. cond (is_air ls c) (tick (value x c)) (Whole (level ls vs c)))
+    any_first is_refused (cells g) (λ c. cond (is_air ls c) (tick (value x c)) (Some (level ls vs c)))
     ∙ ap met (first_cong _ _ (cells g) (λ c l. refused_cond (is_air ls c) (tick (value x c)) (level ls vs c)))
     ∙ ap (λ n. met (first (refused_at ls x) n)) (sym e)
 
 -- one cell, by its label l
 module _ (ls : List ℕ) (x : List Float) (c l : ℕ) (e : l ≡ label_at ls c) where
-  refused_air : (t : Tick) → l ≡ 0 → t ≡ tick (value x c) → is_refused t ≡ refused_at ls x c
+  refused_air : (t : Option ℤ) → l ≡ 0 → t ≡ tick (value x c) → is_refused t ≡ refused_at ls x c
   unfolding refused_at is_air
   refused_air t k q = rw (eq-eqb (label_at ls c) 0 (omega arith)) (ap is_refused q)
 
-  pub refused_kept : (t : Tick) (z : ℤ) → l ≡ 0 → t ≡ tick (value x c) → t ≡ Whole z → false ≡ refused_at ls x c
+  pub refused_by : (t : Option ℤ) (r : Bool) → l ≡ 0 → t ≡ tick (value x c) → is_some t ≡ not r → r ≡ refused_at ls x c
   unfolding is_refused
-  refused_kept t z k q w = ap is_refused (sym w) ∙ refused_air t k q
+  refused_by t r k q w = none_is t r w ∙ refused_air t k q
+    where
+      none_is : (t : Option ℤ) (r : Bool) → is_some t ≡ not r → r ≡ is_refused t
+      none_is (Some z) false w = refl
+      none_is (Some z) true w = cc
+      none_is None true w = refl
+      none_is None false w = cc
 
-  pub refused_lost : (t : Tick) → l ≡ 0 → t ≡ tick (value x c) → t ≡ Refused → true ≡ refused_at ls x c
-  unfolding is_refused
-  refused_lost t k q w = ap is_refused (sym w) ∙ refused_air t k q
-
-  pub refused_not : (l ≡ 0 → ⊥) → false ≡ refused_at ls x c
+  pub refused_not : (r : Bool) → r ≡ eqb l 0 → (l ≡ 0 → ⊥) → r ≡ refused_at ls x c
   unfolding refused_at is_air
-  refused_not k = rw (ne_eqb (label_at ls c) 0 (λ z. k (e ∙ z)))
+  refused_not r q k = rw (ne_eqb (label_at ls c) 0 (λ z. k (e ∙ z))) (q ∙ ne_eqb l 0 k)
 
 -- ---- a cell across a face, by its label l
 module _ (g : Sides) (ls : List ℕ) (vs : List ℤ) (x : List Float) (j l : ℕ) (e : l ≡ label_at ls j) (long : length ls ≡ cells g) where
@@ -214,19 +212,19 @@ module _ (g : Sides) (ls : List ℕ) (vs ps : List ℤ) where
 
 -- ---- the verdict: at a cell that fails, and after the last one
 module _ (g : Sides) (ls : List ℕ) (vs : List ℤ) (x : List Float) (t : Settings) (c : ℕ) (long : length ls ≡ cells g) where
-  passes_is : (f : Found) (w : ℕ) → f ≡ first (refused_at ls x) (length ls) → w ≡ up (worst_step g ls vs (rounded_on g ls vs x)) (length ls) 0
+  passes_is : (f : Option ℕ) (w : ℕ) → f ≡ first (refused_at ls x) (length ls) → w ≡ up (worst_step g ls vs (rounded_on g ls vs x)) (length ls) 0
       → passes (record { sides = g; labels = ls; values = vs }) t x ≡ (not (met f) && leb w t.tolerance)
   unfolding passes
   passes_is f w e q =
       ap₂ (λ u v. not u && leb v t.tolerance) (some_refused g ls vs x long ∙ ap met (sym e)) (sym (worst_is g ls vs (rounded_on g ls vs x) w long q))
 
-  pub refused_fails : (b : Bool) → c < length ls → None (refused_at ls x) c → b ≡ refused_at ls x c → b ≡ true
-      → Failed ≡ tested (record { sides = g; labels = ls; values = vs }) t x
+  pub refused_fails : (b : Bool) → c < length ls → NoneBelow (refused_at ls x) c → b ≡ refused_at ls x c → b ≡ true
+      → None ≡ tested (record { sides = g; labels = ls; values = vs }) t x
   unfolding tested met
-  refused_fails b l h e k = rw (passes_is (At c) _ (hit (refused_at ls x) c (length ls) b l h e k) refl)
+  refused_fails b l h e k = rw (passes_is (Some c) _ (hit (refused_at ls x) c (length ls) b l h e k) refl)
 
   pub beyond_fails : (w v : ℕ) → c < length ls → Up (worst_step g ls vs (rounded_on g ls vs x)) 0 c w → v ≡ worst_step g ls vs (rounded_on g ls vs x) c w → t.tolerance < v
-      → Failed ≡ tested (record { sides = g; labels = ls; values = vs }) t x
+      → None ≡ tested (record { sides = g; labels = ls; values = vs }) t x
   unfolding tested
   beyond_fails w v l h e k =
       let n : v ≡ up (worst_step g ls vs (rounded_on g ls vs x)) (c + 1) 0 = (up_more h e).is in
@@ -234,17 +232,17 @@ module _ (g : Sides) (ls : List ℕ) (vs : List ℤ) (x : List Float) (t : Setti
       omega (arith, worst_grows g ls vs (rounded_on g ls vs x) (c + 1) (length ls) (omega arith)) in
       rw (passes_is _ _ refl refl, lt-leb _ t.tolerance m) (no (not (met (first (refused_at ls x) (length ls)))))
     where
-      no : (b : Bool) → Failed ≡ cond (b && false) (Passed (worst (record { sides = g; labels = ls; values = vs }) (rounded_on g ls vs x))) Failed
+      no : (b : Bool) → None ≡ cond (b && false) (Some (worst (record { sides = g; labels = ls; values = vs }) (rounded_on g ls vs x))) None
       no true = refl
       no false = refl
 
-  pub within_passes : (w : ℕ) → c ≤ length ls → length ls ≤ c → None (refused_at ls x) c → Up (worst_step g ls vs (rounded_on g ls vs x)) 0 c w → w ≤ t.tolerance
-      → Passed w ≡ tested (record { sides = g; labels = ls; values = vs }) t x
+  pub within_passes : (w : ℕ) → c ≤ length ls → length ls ≤ c → NoneBelow (refused_at ls x) c → Up (worst_step g ls vs (rounded_on g ls vs x)) 0 c w → w ≤ t.tolerance
+      → Some w ≡ tested (record { sides = g; labels = ls; values = vs }) t x
   unfolding tested met
   within_passes w a b h u k =
       let q : w ≡ up (worst_step g ls vs (rounded_on g ls vs x)) (length ls) 0 = up_end (length ls) u a b in
-      rw (passes_is Nowhere w (none_end (refused_at ls x) c (length ls) a b h) q, le-leb w t.tolerance k)
-      (ap Passed (worst_is g ls vs (rounded_on g ls vs x) w long q))
+      rw (passes_is None w (none_end (refused_at ls x) c (length ls) a b h) q, le-leb w t.tolerance k)
+      (ap Some (worst_is g ls vs (rounded_on g ls vs x) w long q))
 
 -- ---- the pressures, written down
 abbrev pub writing : List ℕ → List ℤ → List Float → ℕ → List ℤ → List ℤ
@@ -269,4 +267,4 @@ pub ruleset gathers = (walks, gathering_added)
 
 pub ruleset turns = (ups, none_none)
 
-pub ruleset verdicts = (ups, refused_kept, refused_lost, refused_not, refused_fails, beyond_fails, within_passes)
+pub ruleset verdicts = (ups, refused_by, refused_not, refused_fails, beyond_fails, within_passes)

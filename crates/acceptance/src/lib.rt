@@ -11,16 +11,9 @@ ghost use Rattle.ticks.specs.Worst.{worst_step};
 ghost use Rattle.acceptance.specs.Trial.{Asked, tested};
 ghost use Rattle.acceptance.specs.Cells.{rounded_on, pressure_by, Pressure, Added, refused_at};
 
-use grid::near::label_at;
-use method::{Settings, Sides, Tick};
+use grid::near::{label_at, neighbours};
+use method::{Settings, Sides};
 use ticks::Faces;
-
-// What the test finds: the worst residual where x passes.
-#[derive(Clone, Copy)]
-pub enum Tested {
-    Passed(u32),
-    Failed,
-}
 
 // The pressure of cell j, by its label: the tick of x in air, the level at an opening, 0 at a wall.
 fn whole_at(label: u8, values: &[i32], x: &[f64], j: usize) -> i64
@@ -31,7 +24,7 @@ fn whole_at(label: u8, values: &[i32], x: &[f64], j: usize) -> i64
         return ticks::tick::whole_back(x[j]);
     }
     if label == 1 {
-        return signed_numbers::wide(values[j]);
+        return i64::from(values[j]);
     }
     0
 }
@@ -58,12 +51,9 @@ fn gather(g: Sides, labels: &[u8], values: &[i32], x: &[f64], c: usize) -> Faces
     requires { Asked g labels.now values.now x.now × (c < cells g) }
     ensures { Gathered g labels.now (rounded_on g labels.now values.now x.now) c result }
 {
-    let around = grid::near::neighbours(g, labels.len(), c);
     let mut a = Faces { d: 0, sum: 0 };
-    let mut i = 0;
-    while i < 6 {
-        a = visit(g, labels, values, x, around[i], a);
-        i += 1;
+    for j in neighbours(g, labels.len(), c) {
+        a = visit(g, labels, values, x, j, a);
     }
     a
 }
@@ -74,7 +64,7 @@ pub fn residual_at(g: Sides, labels: &[u8], values: &[i32], x: &[f64], c: usize)
     ensures { Residual g labels.now values.now (rounded_on g labels.now values.now x.now) c result }
 {
     let a = gather(g, labels, values, x, c);
-    let source = signed_numbers::wide(values[c]);
+    let source = i64::from(values[c]);
     let own = whole_at(0, values, x, c);
     ticks::residual_of(source, a.sum, a.d, own)
 }
@@ -85,7 +75,7 @@ fn worst_at(g: Sides, labels: &[u8], values: &[i32], x: &[f64], c: usize, w: u64
     ensures { result ≡ worst_step g labels.now values.now (rounded_on g labels.now values.now x.now) c w }
 {
     if label_at(labels, c) == 0 {
-        let a = signed_numbers::size(residual_at(g, labels, values, x, c));
+        let a = residual_at(g, labels, values, x, c).unsigned_abs();
         if w < a {
             return a;
         }
@@ -98,35 +88,27 @@ fn refused_at(labels: &[u8], x: &[f64], c: usize) -> bool
     requires { c < length x.now }
     ensures { result ≡ refused_at labels.now x.now c }
 {
-    if label_at(labels, c) != 0 {
-        return false;
-    }
-    match ticks::tick::to_tick(x[c]) {
-        Tick::Whole(_) => false,
-        Tick::Refused => true,
-    }
+    label_at(labels, c) == 0 && ticks::tick::to_tick(x[c]).is_none()
 }
 
 // The test, left at the first air cell that fails it: its tick is refused, or its residual is beyond the tolerance. The
-// worst so far is within the tolerance, so it is beyond it only where cell c's residual is.
-pub fn test(g: Sides, labels: &[u8], values: &[i32], x: &[f64], settings: Settings) -> Tested
+// worst so far is within the tolerance, so it is beyond it only where cell c's residual is. The worst where x passes.
+pub fn test(g: Sides, labels: &[u8], values: &[i32], x: &[f64], settings: Settings) -> Option<u32>
     requires { Asked g labels.now values.now x.now × (settings.tolerance ≤ 1000000) }
     ensures { result ≡ tested (record { sides = g; labels = labels.now; values = values.now }) settings x.now }
 {
-    let tolerance = settings.tolerance as u64;
+    let tolerance = u64::from(settings.tolerance);
     let mut w = 0;
-    let mut c = 0;
-    while c < labels.len() {
+    for c in 0..labels.len() {
         if refused_at(labels, x, c) {
-            return Tested::Failed;
+            return None;
         }
         w = worst_at(g, labels, values, x, c, w);
         if tolerance < w {
-            return Tested::Failed;
+            return None;
         }
-        c += 1;
     }
-    Tested::Passed(w as u32)
+    Some(w as u32)
 }
 
 // The pressure of cell c, written down.
@@ -143,9 +125,7 @@ pub fn write_ticks(pressures: &mut [i64], g: Sides, labels: &[u8], values: &[i32
     requires { Asked g labels.now values.now x.now × (length pressures.old ≡ cells g) }
     ensures { pressures.new ≡ rounded (record { sides = g; labels = labels.now; values = values.now }) x.now }
 {
-    let mut c = 0;
-    while c < labels.len() {
+    for c in 0..labels.len() {
         write_at(pressures, labels, values, x, c);
-        c += 1;
     }
 }

@@ -1,13 +1,11 @@
 -- Laws of the print: a line of a whole number, the lines of an answer, those of all pressures. Assumes nothing.
 use mathlib.Core.Path.{◌≡◌, refl, sym, ap, ◌∙◌}
 use mathlib.Core.Bool.{true, false}
-use mathlib.Core.List.{List, [], ◌∷◌, ◌++◌, append_assoc, flat_map}
+use mathlib.Core.List.{List, ◌++◌, append_assoc, flat_map}
 use Prim.Native.Nat.{ℕ, zero, suc, ◌+◌, ◌*◌, ◌^◌, ◌≤◌, ◌<◌}
-use native.Mathlib.Numerals.{add-one}
 use native.Mathlib.Omega.{arith}
 use borrow.Author.Rules.{rules}
-use lib.ListN.{length, get_or, take}
-use lib.Seq.{take-suc, take_all}
+use lib.ListN.{length}
 use lib.IntN.{ℤ, pos, negsuc, nat_abs}
 use lib.Signed.{lt_z, mag}
 use mir.Syntax.{w32, w64}
@@ -20,10 +18,9 @@ use Rattle.method.specs.Form.{line}
 use Rattle.method.specs.Program.{whole, answer_lines, print}
 use Rattle.signed_numbers.proofs.Signs.{same, below, above}
 use Rattle.text_out.specs.Puts.{Put}
-use Rattle.text_out.proofs.PutLaws.{put_length, put_then}
+use Rattle.text_out.proofs.PutLaws.{put_length, put_then, comes_back}
 use Rattle.text_out.proofs.DecimalLaws.{most_digits}
 use Rattle.session_bytes.specs.Lengths.{three_lines}
-use Rattle.session_bytes.proofs.PartLaws.{flat_append, flat_one}
 use Rattle.session_bytes.proofs.LengthLaws.{line_length, three_length}
 use Rattle.answer_print.specs.Shows.{cell_line, worst_lines, cast_lines, answer_room, print_room, PutShort}
 
@@ -70,9 +67,6 @@ module _ (p : ℤ) (f : SFits w64 p) (n : ℕ) (e : n ≡ nat_abs (to_z w64 (of_
           puts = rw (b, ← m) q;
           short = omega (arith, q.next, line_length key n, few);
         }
-
-pub cell_put : (p : ℤ) → SFits w64 p → (w u : List ℕ) (i j : ℕ) → PutShort 26 (line (text "cell=") (whole (to_z w64 (of_z w64 p)))) w i u j → PutShort 26 (cell_line p) w i u j
-cell_put p f w u i j q = rw (to_z-of_z f) at q
 
 pub ruleset signs = (rules, whole_room, minus_room, minus_put, plain_put)
 
@@ -153,38 +147,6 @@ module _ (a : Answer) (w : List ℕ) (i : ℕ) (x : a.number < 2 ^ 32) (y : a.pl
 
 pub ruleset answers = (rules, first_room, worst_fits, cast_fits, answer_put)
 
--- ---- i lines are put
-pub record Celled (ps : List ℤ) (old : List ℕ) (at i : ℕ) (new : List ℕ) (r : ℕ) : Type 0 where
-  pub puts : Put (flat_map cell_line (take i ps)) old at new r
-  pub short : r ≤ at + 26 * i
-
-module _ (ps : List ℤ) (old : List ℕ) (at : ℕ) where
-  pub celled_none : Celled ps old at 0 old at
-  unfolding flat_map
-  celled_none = record { puts = record { is = refl; next = omega arith }; short = omega arith }
-
-  module _ (new : List ℕ) (i r : ℕ) (h : Celled ps old at i new r) where
-    pub celled_more : (next : List ℕ) (q : ℕ) → i < length ps → mag (get_or ps i (pos 0)) < 2 ^ 63
-        → PutShort 26 (cell_line (to_z w64 (of_z w64 (get_or ps i (pos 0))))) new r next q
-        → Celled ps old at (i + 1) next q
-    celled_more next q l m p =
-        let e : flat_map cell_line (take (i + 1) ps) ≡ flat_map cell_line (take i ps) ++ cell_line (get_or ps i (pos 0)) =
-        ap (λ k. flat_map cell_line (take k ps)) (add-one i) ∙ ap (flat_map cell_line) (take-suc ps i (pos 0) l)
-        ∙ flat_append cell_line (take i ps) (get_or ps i (pos 0) ∷ []) ∙ ap (λ x. flat_map cell_line (take i ps) ++ x) (flat_one cell_line (get_or ps i (pos 0))) in
-        let f : to_z w64 (of_z w64 (get_or ps i (pos 0))) ≡ get_or ps i (pos 0) = to_z-of_z {w = w64} (record { sfits = m }) in
-        record { puts = rw e (put_then h.puts (rw f at p.puts)); short = omega (arith, h.short, p.short) }
-
-    pub celled_all : i ≤ length ps → length ps ≤ i → PutShort (26 * length ps) (flat_map cell_line ps) old at new r
-    celled_all m l = record { puts = rw (take_all i ps l) at h.puts; short = omega (arith, h.short) }
-
-    pub celled_room : i < length ps → at + 26 * length ps ≤ length old → r + 26 ≤ length new
-    celled_room l m = omega (arith, h.short, put_length h.puts)
-
-    pub celled_length : length new ≡ length old
-    celled_length = put_length h.puts
-
-pub ruleset lists = (rules, celled_none, celled_more, celled_all, celled_room, celled_length)
-
 -- ---- the whole print
 module _ (a : Answer) (ps : List ℤ) (w u : List ℕ) (j : ℕ) where
   pub show_room : print_room (length ps) ≤ length w → PutShort answer_room (answer_lines a) w 0 u j → j + 26 * length ps ≤ length u
@@ -202,5 +164,9 @@ module _ (a : Answer) (ps : List ℤ) (w u : List ℕ) (j : ℕ) where
       go : (k : ℕ) → a.number ≡ k → Put (print a ps) w 0 u j
       go zero q = absurd (e q)
       go (suc k) q = rw (print, q) p.puts
+
+-- what was lent comes back, as with `comes_back`
+pub shows_back : {N : Type 0} {n m : N} {most : ℕ} {bytes old x y : List ℕ} {i j : ℕ} → m ≡ n → PutShort most bytes old i y j → (n ≡ m → x ≡ y) → PutShort most bytes old i x j
+shows_back same p back = record { puts = comes_back same p.puts back; short = p.short }
 
 pub ruleset shows = (rules, show_room, show_accepted, show_other)

@@ -1,10 +1,11 @@
 -- The line of a pressure, how long a print may be, and bytes that are put and are few.
-use Rattle.std.specs.Prelude.{ℕ, ◌+◌, ◌*◌, ◌≤◌, List, ◌++◌, ℤ}
+use Rattle.std.specs.Prelude.{◌≡◌, ℕ, ◌+◌, ◌*◌, ◌≤◌, List, ◌++◌, ℤ}
 use Rattle.laws.specs.Text.{text}
 use Rattle.method.specs.declared.Answer.{Answer}
 use Rattle.method.specs.Numbers.{decimal}
 use Rattle.method.specs.Form.{line}
 use Rattle.method.specs.Program.{whole}
+use Rattle.text_out.specs.declared.Sink.{Sink}
 use Rattle.text_out.specs.Puts.{Put}
 
 abbrev pub cell_line : ℤ → List ℕ
@@ -28,3 +29,7 @@ print_room n = answer_room + 26 * n
 pub record PutShort (most : ℕ) (bytes old : List ℕ) (at : ℕ) (new : List ℕ) (r : ℕ) : Type 0 where
   pub puts : Put bytes old at new r
   pub short : r ≤ at + most
+
+-- the same of a sink, which holds the same lent output afterwards
+abbrev pub PutsShort : ℕ → List ℕ → Sink → Sink → Type 0
+PutsShort most bytes s t = (t.bytes.ghost_name ≡ s.bytes.ghost_name) × PutShort most bytes s.bytes.now s.at t.bytes.now t.at

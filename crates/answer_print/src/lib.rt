@@ -2,82 +2,73 @@
 // pressure.
 #![tactic(auto)]
 
-ghost use Rattle.std.specs.Prelude.{◌≡◌, ◌+◌, ◌*◌, ◌≤◌, length};
-ghost use mathlib.Core.List.{flat_map};
+ghost use Rattle.std.specs.Prelude.{◌+◌, ◌≤◌, length};
 ghost use Rattle.method.specs.Form.{line};
 ghost use Rattle.method.specs.Program.{whole, answer_lines, print};
-ghost use Rattle.answer_print.specs.Shows.{cell_line, worst_lines, cast_lines, answer_room, print_room, PutShort};
+ghost use Rattle.text_out.specs.Puts.{Room};
+ghost use Rattle.answer_print.specs.Shows.{cell_line, worst_lines, cast_lines, answer_room, print_room, PutShort, PutsShort};
 
 use method::Answer;
 use session_bytes::put_three;
-use signed_numbers::wide;
-use text_out::{put_bytes, put_line};
+use text_out::{Form, Sink};
 
 // Puts a line of a key and a whole number: a minus where it is negative, and its size.
-fn put_whole(output: &mut [u8], at: usize, key: &[u8], p: i64) -> usize
-    requires { at + (length key.now + 21) ≤ length output.old }
-    ensures { PutShort (length key.now + 21) (line key.now (whole p)) output.old at output.new result }
+fn put_whole(sink: &mut Sink<'_>, key: &[u8], p: i64)
+    requires { Room (length key.now + 21) sink.old }
+    ensures { PutsShort (length key.now + 21) (line key.now (whole p)) sink.old sink.new }
 {
-    let n = signed_numbers::size(p);
+    let n = p.unsigned_abs();
     if p < 0 {
-        let sign = put_bytes(output, at, key);
-        return put_line(output, sign, b"-", n);
+        sink.put(key);
+        sink.put_line(b"-", n);
+    } else {
+        sink.put_line(key, n);
     }
-    put_line(output, at, key, n)
 }
 
 // Puts the worst residual, its cell and its value with the sign.
-fn put_worst(output: &mut [u8], at: usize, a: Answer) -> usize
-    requires { at + 70 ≤ length output.old }
-    ensures { PutShort 70 (worst_lines a) output.old at output.new result }
+fn put_worst(sink: &mut Sink<'_>, a: Answer)
+    requires { Room 70 sink.old }
+    ensures { PutsShort 70 (worst_lines a) sink.old sink.new }
 {
-    let cell = put_line(output, at, b"worst=", a.worst as u64);
-    let left = put_line(output, cell, b"worstcell=", a.worstcell as u64);
-    put_whole(output, left, b"worstvalue=", wide(a.worstvalue))
+    sink.put_line(b"worst=", u64::from(a.worst));
+    sink.put_line(b"worstcell=", u64::from(a.worstcell));
+    put_whole(sink, b"worstvalue=", i64::from(a.worstvalue));
 }
 
 // Puts what an answer says of the cast alone.
-fn put_cast(output: &mut [u8], at: usize, a: Answer) -> usize
-    requires { at + 37 ≤ length output.old }
-    ensures { PutShort 37 (cast_lines a) output.old at output.new result }
+fn put_cast(sink: &mut Sink<'_>, a: Answer)
+    requires { Room 37 sink.old }
+    ensures { PutsShort 37 (cast_lines a) sink.old sink.new }
 {
-    let depth = put_line(output, at, b"interior=", a.interior as u64);
-    put_line(output, depth, b"depth=", a.depth as u64)
+    sink.put_line(b"interior=", u64::from(a.interior));
+    sink.put_line(b"depth=", u64::from(a.depth));
 }
 
 // Puts the eight lines of an answer.
-fn put_answer(output: &mut [u8], at: usize, a: Answer) -> usize
-    requires { at + answer_room ≤ length output.old }
-    ensures { PutShort answer_room (answer_lines a) output.old at output.new result }
+fn put_answer(sink: &mut Sink<'_>, a: Answer)
+    requires { Room answer_room sink.old }
+    ensures { PutsShort answer_room (answer_lines a) sink.old sink.new }
 {
-    let worst = put_three(
-        output, at, b"answer=", a.number, b"place=", a.place, b"rounds=", a.rounds,
+    put_three(
+        sink, b"answer=", a.number, b"place=", a.place, b"rounds=", a.rounds,
     );
-    let interior = put_worst(output, worst, a);
-    put_cast(output, interior, a)
+    put_worst(sink, a);
+    put_cast(sink, a);
 }
 
-// Puts the line of a pressure.
-fn put_cell(output: &mut [u8], at: usize, p: i64) -> usize
-    requires { at + 26 ≤ length output.old }
-    ensures { PutShort 26 (cell_line p) output.old at output.new result }
-{
-    put_whole(output, at, b"cell=", p)
-}
+// A pressure is put as a line.
+#[derive(Drop)]
+struct CellLine;
 
-// Puts the lines of all pressures, one after the other.
-fn put_cells(output: &mut [u8], at: usize, pressures: &[i64]) -> usize
-    requires { at + 26 * length pressures.now ≤ length output.old }
-    ensures { PutShort (26 * length pressures.now) (flat_map cell_line pressures.now) output.old at output.new result }
-{
-    let mut next = at;
-    let mut i = 0;
-    while i < pressures.len() {
-        let p = pressures[i];
-        next = put_cell(output, next, p);
-        i += 1;
+impl Form<i64> for CellLine {
+    ghost word = { λ s p. cell_line p };
+
+    ghost most = { λ s. 26 };
+
+    fn put(&self, sink: &mut Sink<'_>, p: i64) {
+        put_whole(sink, b"cell=", p);
     }
-    next
 }
 
 // Puts the whole print at the front, and answers how many bytes it has.
@@ -85,9 +76,14 @@ pub fn show(answer: Answer, pressures: &[i64], output: &mut [u8]) -> usize
     requires { print_room (length pressures.now) ≤ length output.old }
     ensures { PutShort (print_room (length pressures.now)) (print answer pressures.now) output.old 0 output.new result }
 {
-    let next = put_answer(output, 0, answer);
-    if answer.number == 0 {
-        return put_cells(output, next, pressures);
+    let mut sink = Sink {
+        bytes: output,
+        at: 0,
+    };
+    put_answer(&mut sink, answer);
+    let accepted = answer.number == 0;
+    if accepted {
+        sink.put_each(&CellLine, pressures);
     }
-    next
+    sink.at
 }

@@ -1,2 +1,3 @@
 -- The definitions that the crate's contracts and its callers' cite.
 pub mod Ends
+pub mod Faults

@@ -6,7 +6,7 @@ use mathlib.Core.Bool.{Bool, true, false, ◌&&◌, cond}
 use native.Mathlib.Nat.{mul-le-mul, lt_irrefl}
 use native.Mathlib.Omega.{arith}
 use borrow.Author.Rules.{rules}
-use borrow.Author.Tests.{ltb-true, leb-true, leb-false, lt-ltb, le-ltb}
+use borrow.Author.Tests.{ltb-true, leb-true, leb-false}
 use lib.Dec.{ltb, leb}
 use mir.Syntax.{w64}
 use mir.Val.{Fits}
@@ -30,10 +30,6 @@ left false b e = e
 right : (a b : Bool) → (a && b) ≡ true → b ≡ true
 right true b e = e
 right false b e = absurd (so {b = false} e)
-
-no_right : (a b : Bool) → b ≡ false → (a && b) ≡ false
-no_right true b e = e
-no_right false b e = refl
 
 taken : (b : Bool) (i n : ℕ) → cond b i n < n → b ≡ true
 taken true i n l = refl
@@ -96,24 +92,7 @@ spot_low s q z = record { x_near = omega (arith, z.x_near); y_near = omega (arit
 pub parent_near : (s k : Spot) (q : ℕ) → Near s → k ≡ parent_spot s q → Near k
 parent_near s k q z e = rw e (spot_low s q z)
 
--- ---- the first child, by the tests of the code, and how far the others are from it
-pub first_out_x : (g : Sides) (s : Spot) (r : ℕ) → g.nx ≤ 2 * s.x + 1 → r ≡ cells g → r ≡ first_child g s
-unfolding first_child whole_in
-first_out_x g s r i e = rw (le-ltb (2 * s.x + 1) g.nx i) e
-
-pub first_out_y : (g : Sides) (s : Spot) (r : ℕ) → 2 * s.x + 1 < g.nx → g.ny ≤ 2 * s.y + 1 → r ≡ cells g → r ≡ first_child g s
-unfolding first_child whole_in
-first_out_y g s r i j e = rw (lt-ltb (2 * s.x + 1) g.nx i, le-ltb (2 * s.y + 1) g.ny j) e
-
-pub first_out_z : (g : Sides) (s : Spot) (r : ℕ) → 2 * s.x + 1 < g.nx → 2 * s.y + 1 < g.ny → g.nz ≤ 2 * s.z + 1 → r ≡ cells g → r ≡ first_child g s
-unfolding first_child whole_in
-first_out_z g s r i j k e = rw (lt-ltb (2 * s.x + 1) g.nx i, lt-ltb (2 * s.y + 1) g.ny j, le-ltb (2 * s.z + 1) g.nz k) e
-
-pub first_whole : (g : Sides) (s : Spot) (r : ℕ) → 2 * s.x + 1 < g.nx → 2 * s.y + 1 < g.ny → 2 * s.z + 1 < g.nz
-    → r ≡ number g (2 * s.x) (2 * s.y) (2 * s.z) → r ≡ first_child g s
-unfolding first_child whole_in
-first_whole g s r i j k e = rw (lt-ltb (2 * s.x + 1) g.nx i, lt-ltb (2 * s.y + 1) g.ny j, lt-ltb (2 * s.z + 1) g.nz k) e
-
+-- ---- how far the other children are from the first
 moved : (g : Sides) (x y z a b c : ℕ) → number g x y z + (a + b * g.nx + c * (g.nx * g.ny)) ≡ number g (x + a + 1 - 1) (y + b + 1 - 1) (z + c + 1 - 1)
 unfolding number
 moved g x y z a b c =
@@ -142,18 +121,6 @@ unfolding cells
 near_fits g n i j z f l h = record { fits = omega (arith, small_three g.nx g.ny g.nz z.nx_32 z.ny_32 z.nz_32, f, l, h) }
 
 -- ---- the block around a cell
-four_low : (a side : ℕ) → a < 1 → four_in a side ≡ false
-unfolding four_in
-four_low a side h = rw (le-ltb 0 a (omega arith))
-
-four_high : (a side : ℕ) → side ≤ 2 * a + 1 → four_in a side ≡ false
-unfolding four_in
-four_high a side h = rw (le-ltb (2 * a + 1) side h) (no_right (ltb 0 a) false refl)
-
-four_yes : (a side : ℕ) → 1 ≤ a → 2 * a + 1 < side → four_in a side ≡ true
-unfolding four_in
-four_yes a side h k = rw (lt-ltb 0 a h, lt-ltb (2 * a + 1) side k)
-
 record Four (x side : ℕ) : Type 0 where
   low : 0 < x
   high : 2 * x + 1 < side
@@ -184,48 +151,7 @@ module _ (g : Sides) (s : Spot) where
   abbrev Z : ℕ
   Z = (s.z + 1) / 2
 
-  -- by the tests of the code
-  no_block : block_in g s ≡ false → (r : ℕ) → r ≡ cells g → r ≡ corner_of g s
-  unfolding corner_of
-  no_block e r q = rw e q
-
-  not_x : four_in X g.nx ≡ false → block_in g s ≡ false
-  unfolding block_in
-  not_x e = rw e
-
-  not_y : four_in Y g.ny ≡ false → block_in g s ≡ false
-  unfolding block_in
-  not_y e = rw e (no_right (four_in X g.nx) false refl)
-
-  not_z : four_in Z g.nz ≡ false → block_in g s ≡ false
-  unfolding block_in
-  not_z e = rw e (no_right (four_in X g.nx) _ (no_right (four_in Y g.ny) false refl))
-
-  module _ (r : ℕ) (q : r ≡ cells g) where
-    pub corner_x_low : X < 1 → r ≡ corner_of g s
-    corner_x_low h = no_block (not_x (four_low X g.nx h)) r q
-
-    pub corner_x_high : g.nx ≤ 2 * X + 1 → r ≡ corner_of g s
-    corner_x_high h = no_block (not_x (four_high X g.nx h)) r q
-
-    pub corner_y_low : Y < 1 → r ≡ corner_of g s
-    corner_y_low h = no_block (not_y (four_low Y g.ny h)) r q
-
-    pub corner_y_high : g.ny ≤ 2 * Y + 1 → r ≡ corner_of g s
-    corner_y_high h = no_block (not_y (four_high Y g.ny h)) r q
-
-    pub corner_z_low : Z < 1 → r ≡ corner_of g s
-    corner_z_low h = no_block (not_z (four_low Z g.nz h)) r q
-
-    pub corner_z_high : g.nz ≤ 2 * Z + 1 → r ≡ corner_of g s
-    corner_z_high h = no_block (not_z (four_high Z g.nz h)) r q
-
-  pub corner_whole : (r : ℕ) → 1 ≤ X → 2 * X + 1 < g.nx → 1 ≤ Y → 2 * Y + 1 < g.ny → 1 ≤ Z → 2 * Z + 1 < g.nz
-      → r ≡ number g (2 * (X - 1)) (2 * (Y - 1)) (2 * (Z - 1)) → r ≡ corner_of g s
-  unfolding corner_of block_in
-  corner_whole r a b c d e f q = rw (four_yes X g.nx a b, four_yes Y g.ny c d, four_yes Z g.nz e f) q
-
-  module _ (h : Sides) (first labels : ℕ) (a : BlockAsked g h s first labels) where
+  module _ (first labels : ℕ) (a : BlockAsked g s first labels) where
     all_in : block_in g s ≡ true
     unfolding corner_of
     all_in = taken (block_in g s) (number g (2 * (X - 1)) (2 * (Y - 1)) (2 * (Z - 1))) (cells g) (rw (← a.is) a.inside)
@@ -278,9 +204,9 @@ module _ (g : Sides) (s : Spot) where
         omega (arith, n, block_number q t, a.full)
 
     -- the q-th coarse cell is in its box
-    halves_in : (q : ℕ) → parent_at (halved g) s q < cells (halved g)
+    pub block_parent : (q : ℕ) → parent_at (halved g) s q < cells (halved g)
     unfolding parent_at halved half
-    halves_in q =
+    block_parent q =
         let x = axis_half ((s.x + 1) / 2) q g.nx in_x.low in_x.high in
         let y = axis_half ((s.y + 1) / 2) (q / 2) g.ny in_y.low in_y.high in
         let z = axis_half ((s.z + 1) / 2) (q / 2 / 2) g.nz in_z.low in_z.high in
@@ -289,9 +215,6 @@ module _ (g : Sides) (s : Spot) where
       where
         below : (a b : ℕ) → 0 < a → a ≤ b → a - 1 < b
         below a b l h = omega arith
-
-    pub block_parent : (q : ℕ) → parent_at h s q < cells h
-    block_parent q = rw a.next (halves_in q)
 
 -- the products and sums of the step
 module _ (a b t : ℕ) (h : a ≤ 32) (k : b ≤ 32) where
@@ -319,8 +242,6 @@ module _ (a b t : ℕ) (h : a ≤ 32) (k : b ≤ 32) where
   pub step_fits : Fits w64 (t % 2 + t / 2 % 2 * a + t / 2 / 2 % 2 * (a * b))
   step_fits = record { fits = omega (arith, step_far) }
 
-pub ruleset blocks = (rules, outside_is, first_out_x, first_out_y, first_out_z, first_whole, child_near, near_fits)
-
-pub ruleset corners = (rules, corner_x_low, corner_x_high, corner_y_low, corner_y_high, corner_z_low, corner_z_high, corner_whole)
+pub ruleset blocks = (rules, outside_is, child_near, near_fits)
 
 pub ruleset steps = (rules, step_far, plane_fits, row_fits, level_fits, two_fits, step_fits)

@@ -1,7 +1,7 @@
 -- What a caller of this crate's functions needs: that what they ask holds, and that what they promise is one result.
 -- Assumes nothing.
-use Prim.Native.Nat.{ℕ, ◌≤◌}
-use mathlib.Core.Path.{◌≡◌, sym, ◌∙◌}
+use Prim.Native.Nat.{ℕ, ◌≤◌, ◌<◌}
+use mathlib.Core.Path.{◌≡◌, sym, ap, ◌∙◌}
 use mathlib.Core.List.{List}
 use native.Mathlib.Omega.{arith}
 use lib.ListN.{length}
@@ -13,14 +13,14 @@ use Rattle.theory.specs.Levels.{sides_at, labels_at, cells_before, air_before}
 use Rattle.theory.specs.Sides.{Fit}
 use Rattle.theory.proofs.Sides.{fits}
 use Rattle.theory.proofs.Kept.{air_of_six}
-use Rattle.levels.specs.declared.sides.Levels.{Levels}
 use Rattle.levels.specs.Rooms.{written}
-use Rattle.levels.specs.Levels.{base}
+use Rattle.levels.specs.Levels.{Levels, base}
 use Rattle.levels.specs.AllLabels.{all_labels, LabelsAsked}
 use Rattle.levels.proofs.Calls.{labels_in_lem}
-use Rattle.bands.specs.declared.lists.Lists.{Lists}
+use Rattle.bands.specs.declared.lists.LevelList.{LevelList}
+use Rattle.levels.proofs.Starts.{firsts_at}
 use Rattle.bands.specs.Lists.{Listed}
-use Rattle.bands.specs.AllLists.{AllListed, base_labels, ListsAsked}
+use Rattle.bands.specs.AllLists.{Lists, list_at, air_at, lists_before, list_row, no_list, lists_to, row_in, AllListed, base_labels, ListsAsked}
 
 module _ (l : Levels) (count : ℕ) (ls e s : List ℕ) (a : LabelsAsked l count (length ls) (length e)) (h : s ≡ written e 0 (all_labels (base l) ls count)) where
   pub base_labels_lem : base_labels l s ≡ ls
@@ -42,6 +42,24 @@ pub words_enough : (g : Sides) (ls : List ℕ) → Fit g → length ls ≡ cells
     → (count words : ℕ) → word_need (cells g) ≤ words → air_before g ls count ≤ words
 unfolding word_need
 words_enough g ls z long w i₀ air count words r = omega (arith, air_of_six g ls (fits g z) long w i₀ air count)
+
+-- ---- what is read of the lists: level k's, where k is a level in use
+module _ {g : Sides} {ls : List ℕ} {count : ℕ} {e : List ℕ} {r : Lists} {s : List ℕ} (p : AllListed g ls count e r s) (k : ℕ) (most : count ≤ 6) (h : k < count) where
+  row_of : row_in r k ≡ list_row g ls count k
+  unfolding lists_to
+  row_of = ap (λ t. row_in t k) p.lists ∙ firsts_at no_list (list_row g ls count) count k no_list most h
+
+  pub row_start : (row_in r k).start ≡ length (lists_before g ls count k)
+  unfolding list_row
+  row_start = ap (λ (t : LevelList). t.start) row_of
+
+  pub row_swept : (row_in r k).swept ≡ length (list_at g ls count k)
+  unfolding list_row
+  row_swept = ap (λ (t : LevelList). t.swept) row_of
+
+  pub row_air : (row_in r k).air ≡ length (air_at g ls count k)
+  unfolding list_row
+  row_air = ap (λ (t : LevelList). t.air) row_of
 
 -- ---- what is promised is one result
 module _ {e : List ℕ} {a : ℕ} {l : List ℕ} {r r' : ℕ} {s s' : List ℕ} where

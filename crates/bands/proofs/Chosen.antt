@@ -63,17 +63,6 @@ module _ (yes : Bool) (c next : ℕ) where
     pub placed_same : (f : ℕ → ℕ) (e s : List ℕ) (r : ℕ) → Placed f e next (kept yes c) r s → Placed f e next (kept b c) r s
     placed_same f e s r p = rw h at p
 
-module _ (ls : List ℕ) (c l : ℕ) (h : l ≡ label_at ls c) where
-  air_is : eqb l 0 ≡ is_air ls c
-  unfolding is_air
-  air_is = ap (λ x. eqb x 0) h
-
-  pub air_room : (next n : ℕ) → next + length (kept (is_air ls c) c) ≤ n → next + length (kept (eqb l 0) c) ≤ n
-  air_room next n k = kept_same (eqb l 0) c next (is_air ls c) air_is n k
-
-  pub air_placed : (f : ℕ → ℕ) (next : ℕ) (e s : List ℕ) (r : ℕ) → Placed f e next (kept (eqb l 0) c) r s → Placed f e next (kept (is_air ls c) c) r s
-  air_placed f next e s r p = placed_same (eqb l 0) c next (is_air ls c) air_is f e s r p
-
 -- ---- how many pass
 module _ (p : ℕ → Bool) where
   chosen_suc : (n : ℕ) → length (chosen p (suc n)) ≡ length (chosen p n) + cond (p n) 1 0
@@ -326,10 +315,11 @@ module _ (b : Bool) (g : Sides) (ls : List ℕ) where
       pub air_count : r + q ≤ length e
       air_count = omega (arith, u.count, v.count, left_long, both_le)
 
-      pub air_listed : LevelListed e a (list_of b g ls) (air_of b g ls) (record { swept = r; air = r + q }) t
+      pub air_listed : LevelListed e a (list_of b g ls) (air_of b g ls) (record { start = a; swept = r; air = r + q }) t
       air_listed =
           let long : r + q ≡ length (air_of b g ls) = omega (arith, u.count, v.count, length-append (list_of b g ls) (left_of b g ls)) in
           record {
+            start = refl;
             count = u.count;
             whole = long;
             room =
@@ -346,20 +336,20 @@ band_asked g h n m c z p q r l = record { fine = z; next = p; count = q; coarse_
 pub cell_small : (g : Sides) (c : ℕ) → Fit g → c < cells g → c < 32768
 cell_small g c z h = omega (arith, cells_most g z)
 
-pub band_smoothed : (g : Sides) (ls : List ℕ) (b : Bool) (c : ℕ) → b ≡ true → in_band g ls c ≡ smoothed b g ls c
+pub band_smoothed : (g : Sides) (ls : List ℕ) (b : Bool) (c : ℕ) (r : Bool) → b ≡ true → r ≡ in_band g ls c → r ≡ smoothed b g ls c
 unfolding smoothed
-band_smoothed g ls b c e = rw e
+band_smoothed g ls b c r e h = rw e h
 
-pub air_smoothed : (g : Sides) (ls : List ℕ) (b : Bool) (c : ℕ) → b ≡ false → is_air ls c ≡ smoothed b g ls c
-unfolding smoothed
-air_smoothed g ls b c e = rw e
+pub air_smoothed : (g : Sides) (ls : List ℕ) (b : Bool) (c l : ℕ) → b ≡ false → l ≡ label_at ls c → eqb l 0 ≡ smoothed b g ls c
+unfolding smoothed is_air
+air_smoothed g ls b c l e h = rw (e, h) refl
 
-pub ruleset keeps = (rules, keep_in, keep_fits, placed_one, placed_none, kept_same, placed_same, air_room, air_placed)
+pub ruleset keeps = (rules, keep_in, keep_fits, placed_one, placed_none, kept_same, placed_same)
 
-pub ruleset keeps_either = (rules, kept_same, placed_same, next_fit, band_asked, cell_small, band_smoothed, air_smoothed)
+pub ruleset smoothes = (rules, next_fit, band_asked, band_smoothed, air_smoothed)
 
 pub ruleset on_waves = (rules, strung_none, strung_same, strung_more, strung_end, early_placed, late_placed, wave_in, wave_placed, smoothed_room, cell_room, line_room)
 
 pub ruleset on_lists = (rules, strung_none, strung_same, strung_end, wave_room, list_room, list_more, list_listed)
 
-pub ruleset lefts = (rules, next_fit, band_asked, left_other, left_band, left_off, left_none)
+pub ruleset lefts = (rules, left_other, left_band, left_off, left_none)

@@ -54,13 +54,18 @@ band_no g ls c l e h = sym (no_air g ls c (λ f. h (e ∙ f)))
 pub band_asked_around : (g h : Sides) (n m c : ℕ) (s : Spot) → BandAsked g h n m c → SpotOf g c s → AroundAsked g h n m s
 band_asked_around g h n m c s a p = record { fine = a.fine; next = a.next; count = a.count; coarse_count = a.coarse_count; near = spot_near g c s a.fine p }
 
-pub band_asked_block : (g h : Sides) (n m c first labels : ℕ) (s : Spot) → BandAsked g h n m c → first ≡ corner_of g s → first < n → n ≤ labels → BlockAsked g h s first labels
-band_asked_block g h n m c first labels s a e l k = record { fine = a.fine; next = a.next; is = e; inside = omega (arith, a.count); full = omega (arith, a.count) }
+pub band_asked_block : (g h : Sides) (n m c first labels : ℕ) (s : Spot) → BandAsked g h n m c → first ≡ corner_of g s → first < n → n ≤ labels → BlockAsked g s first labels
+band_asked_block g h n m c first labels s a e l k = record { fine = a.fine; is = e; inside = omega (arith, a.count); full = omega (arith, a.count) }
 
 -- an air cell is in the band where some coarse cell that gives to it has a child that isn't air
 pub band_some : (g h : Sides) (n m c : ℕ) (s : Spot) (ls : List ℕ) (l : ℕ) (r : Bool) → BandAsked g h n m c → l ≡ label_at ls c → l ≡ 0 → SpotOf g c s
     → r ≡ some (parent_other ls g h s) 8 → r ≡ in_band g ls c
 band_some g h n m c s ls l r a f z w e = e ∙ sym (rw a.next (air g ls c s (sym f ∙ z) w))
+
+-- the same with the next level's sides written out
+pub band_block : (g : Sides) (c : ℕ) (s : Spot) (ls : List ℕ) (l : ℕ) (r : Bool) → l ≡ label_at ls c → l ≡ 0 → SpotOf g c s
+    → r ≡ some (parent_other ls g (halved g) s) 8 → r ≡ in_band g ls c
+band_block g c s ls l r f z w e = e ∙ sym (air g ls c s (sym f ∙ z) w)
 
 -- the q-th parent's children are asked one by one, where it is inside
 has_some : (g h : Sides) (ls : List ℕ) (d : ℕ) (k : Spot) → h ≡ halved g → d < cells h → SpotOf h d k → has_other g ls d ≡ some (child_other ls g k) 8
@@ -71,56 +76,53 @@ parent_some : (g h : Sides) (ls : List ℕ) (s : Spot) (q : ℕ) (k : Spot) → 
 unfolding parent_other
 parent_some g h ls s q k e l p = has_some g h ls (parent_at h s q) k e l (parent_spot_lem h q s k l p)
 
-pub some_none : {p : ℕ → Bool} (q : ℕ) (r : Bool) → q ≤ 8 → 8 ≤ q → None p q → r ≡ false → r ≡ some p 8
-some_none q r u v o e = e ∙ sym (none_end 8 o u v)
+pub some_none : {p : ℕ → Bool} (q : ℕ) → q ≤ 8 → 8 ≤ q → None p q → false ≡ some p 8
+some_none q u v o = sym (none_end 8 o u v)
+
+pub some_here : (p : ℕ → Bool) (q : ℕ) (r : Bool) → q < 8 → r ≡ p q → r ≡ true → true ≡ some p 8
+some_here p q r b e f = sym (some_hit p q 8 b (sym e ∙ f))
 
 -- ---- where the block around the cell is in the box
-module _ (g h : Sides) (s : Spot) (first labels : ℕ) (a : BlockAsked g h s first labels) (ls : List ℕ) where
-  block_some : (q : ℕ) → parent_other ls g h s q ≡ some (child_other ls g (parent_spot s q)) 8
-  block_some q = parent_some g h ls s q (parent_spot s q) a.next (block_parent g s h first labels a q) refl
+module _ (g : Sides) (s : Spot) (first labels : ℕ) (a : BlockAsked g s first labels) (ls : List ℕ) (q : ℕ) where
+  block_some : parent_other ls g (halved g) s q ≡ some (child_other ls g (parent_spot s q)) 8
+  block_some = parent_some g (halved g) ls s q (parent_spot s q) refl (block_parent g s first labels a q) refl
 
-  pub block_none : (q t : ℕ) → None (parent_other ls g h s) q → None (child_other ls g (parent_spot s q)) t → t ≤ 8 → 8 ≤ t → None (parent_other ls g h s) (q + 1)
-  block_none q t b i u v = none_more false b (sym (block_some q ∙ none_end 8 i u v)) refl
+  pub block_none : (t : ℕ) → None (child_other ls g (parent_spot s q)) t → t ≤ 8 → 8 ≤ t → false ≡ parent_other ls g (halved g) s q
+  block_none t i u v = sym (block_some ∙ none_end 8 i u v)
 
-  pub block_hit : (q t : ℕ) (r : Bool) → q < 8 → t < 8 → r ≡ child_other ls g (parent_spot s q) t → r ≡ true → true ≡ some (parent_other ls g h s) 8
-  block_hit q t r b b' i j =
-      sym (some_hit (parent_other ls g h s) q 8 b (block_some q ∙ some_hit (child_other ls g (parent_spot s q)) t 8 b' (sym i ∙ j)))
+  pub block_hit : (t : ℕ) (r : Bool) → t < 8 → r ≡ child_other ls g (parent_spot s q) t → r ≡ true → true ≡ parent_other ls g (halved g) s q
+  block_hit t r b i j = sym (block_some ∙ some_hit (child_other ls g (parent_spot s q)) t 8 b (sym i ∙ j))
 
-pub block_other_is : (g h : Sides) (s : Spot) (first : ℕ) (ls : List ℕ) → BlockAsked g h s first (length ls) → (q t i j : ℕ) → i ≡ child_step g q → j ≡ child_step g t
+pub block_other_is : (g : Sides) (s : Spot) (first : ℕ) (ls : List ℕ) → BlockAsked g s first (length ls) → (q t i j : ℕ) → i ≡ child_step g q → j ≡ child_step g t
     → not (eqb (get_or ls (first + 2 * i + j) 0) 0) ≡ child_other ls g (parent_spot s q) t
-block_other_is g h s first ls a q t i j e f = rw (e, f) (other_is ls g (parent_spot s q) t (first + 2 * child_step g q + child_step g t) _ (block_child g s h first (length ls) a q t)
-    (label_in ls (first + 2 * child_step g q + child_step g t) (block_inside g s h first (length ls) a q t)))
+block_other_is g s first ls a q t i j e f = rw (e, f) (other_is ls g (parent_spot s q) t (first + 2 * child_step g q + child_step g t) _ (block_child g s first (length ls) a q t)
+    (label_in ls (first + 2 * child_step g q + child_step g t) (block_inside g s first (length ls) a q t)))
 
-pub block_at : (g h : Sides) (s : Spot) (first labels : ℕ) → BlockAsked g h s first labels → (q t i j : ℕ) → i ≡ child_step g q → j ≡ child_step g t → first + 2 * i + j < labels
-block_at g h s first labels a q t i j e f = rw (e, f) (block_inside g s h first labels a q t)
+pub block_at : (g : Sides) (s : Spot) (first labels : ℕ) → BlockAsked g s first labels → (q t i j : ℕ) → i ≡ child_step g q → j ≡ child_step g t → first + 2 * i + j < labels
+block_at g s first labels a q t i j e f = rw (e, f) (block_inside g s first labels a q t)
 
-pub ruleset on_blocks = (rules, none_none, none_more, some_none, block_none, block_hit, block_other_is, block_at)
+pub ruleset on_blocks = (rules, none_none, none_more, some_none, some_here, block_none, block_hit, block_other_is, block_at)
 
 -- ---- wherever they are
 pub coarse_fit : (g h : Sides) (n m : ℕ) (s : Spot) → AroundAsked g h n m s → Fit h
 coarse_fit g h n m s a = rw a.next (halved_fit g a.fine)
 
-module _ (g h : Sides) (n m : ℕ) (s : Spot) (a : AroundAsked g h n m s) (ls : List ℕ) where
+module _ (g h : Sides) (n m : ℕ) (s : Spot) (a : AroundAsked g h n m s) (ls : List ℕ) (q : ℕ) (o : Bool) (e : o ≡ leb (cells h) (parent_at h s q)) where
   -- the q-th parent is outside, or its children are asked one by one
-  outside : (q : ℕ) (o : Bool) → o ≡ leb (cells h) (parent_at h s q) → o ≡ true → parent_other ls g h s q ≡ true
+  pub around_outside : o ≡ true → true ≡ parent_other ls g h s q
   unfolding parent_other
-  outside q o e f = outside_has g ls (parent_at h s q) (leb-true _ _ (rw (← a.next) (sym e ∙ f)))
+  around_outside f = sym (outside_has g ls (parent_at h s q) (leb-true _ _ (rw (← a.next) (sym e ∙ f))))
 
-  inside : (q : ℕ) (k : Spot) (o : Bool) → o ≡ leb (cells h) (parent_at h s q) → o ≡ false → k ≡ parent_spot s q → parent_other ls g h s q ≡ some (child_other ls g k) 8
-  inside q k o e f p = parent_some g h ls s q k a.next (leb-false _ _ (sym e ∙ f)) p
+  module _ (f : o ≡ false) (k : Spot) (p : k ≡ parent_spot s q) where
+    inside : parent_other ls g h s q ≡ some (child_other ls g k) 8
+    inside = parent_some g h ls s q k a.next (leb-false _ _ (sym e ∙ f)) p
 
-  -- a parent with no child that isn't air
-  pub none_parent : (q t : ℕ) (k : Spot) (o : Bool) → None (parent_other ls g h s) q → o ≡ leb (cells h) (parent_at h s q) → o ≡ false → k ≡ parent_spot s q
-      → None (child_other ls g k) t → t ≤ 8 → 8 ≤ t → None (parent_other ls g h s) (q + 1)
-  none_parent q t k o b e f p i u v = none_more false b (sym (inside q k o e f p ∙ none_end 8 i u v)) refl
+    pub around_none : (t : ℕ) → None (child_other ls g k) t → t ≤ 8 → 8 ≤ t → false ≡ parent_other ls g h s q
+    around_none t i u v = sym (inside ∙ none_end 8 i u v)
 
-  pub around_outside : (q : ℕ) (o : Bool) → q < 8 → o ≡ leb (cells h) (parent_at h s q) → o ≡ true → true ≡ some (parent_other ls g h s) 8
-  around_outside q o b e y = sym (some_hit (parent_other ls g h s) q 8 b (outside q o e y))
+    pub around_hit : (t : ℕ) (r : Bool) → t < 8 → r ≡ child_other ls g k t → r ≡ true → true ≡ parent_other ls g h s q
+    around_hit t r b i j = sym (inside ∙ some_hit (child_other ls g k) t 8 b (sym i ∙ j))
 
-  pub around_hit : (q t : ℕ) (k : Spot) (o r : Bool) → q < 8 → o ≡ leb (cells h) (parent_at h s q) → o ≡ false → k ≡ parent_spot s q
-      → t < 8 → r ≡ child_other ls g k t → r ≡ true → true ≡ some (parent_other ls g h s) 8
-  around_hit q t k o r b e y p b' i j = sym (some_hit (parent_other ls g h s) q 8 b (inside q k o e y p ∙ some_hit (child_other ls g k) t 8 b' (sym i ∙ j)))
+pub ruleset hits = (rules, none_none, none_more, other_is, coarse_fit, parent_begun, parent_near, some_none, some_here, around_outside, around_none, around_hit)
 
-pub ruleset hits = (rules, none_none, none_more, other_is, coarse_fit, parent_begun, parent_near, none_parent, some_none, around_outside, around_hit)
-
-pub ruleset in_bands = (rules, band_no, band_some, band_asked_around, band_asked_block, spot_near)
+pub ruleset in_bands = (rules, band_no, band_some, band_block, band_asked_around, band_asked_block, spot_near)

@@ -1,17 +1,14 @@
 -- The lists of all levels in one room: for each level all its air, the band first; for the last one in the order in
 -- which it is swept.
-use Rattle.std.specs.Prelude.{ℕ, zero, suc, ◌+◌, ◌<◌, ◌≤◌, ◌≡◌, cond, List, [], ◌++◌, ltb, length, take, drop, set}
-use Rattle.laws.specs.Lists.{tab}
+use Rattle.std.specs.Prelude.{ℕ, zero, suc, ◌+◌, ◌<◌, ◌≤◌, ◌≡◌, List, [], ◌++◌, ltb, length, get_or, take, drop}
 use Rattle.method.specs.declared.Sides.{Sides}
 use Rattle.method.specs.Cast.{cells, interior}
 use Rattle.method.specs.Rooms.{byte_need}
 use Rattle.theory.specs.Levels.{sides_at, labels_at, air_before}
 use Rattle.theory.specs.Sides.{Fit}
-use Rattle.levels.specs.declared.sides.Levels.{Levels}
-use Rattle.bands.specs.declared.lists.Lists.{Lists}
-use Rattle.bands.specs.declared.lists.Gather.{Gather}
+use Rattle.bands.specs.declared.lists.LevelList.{LevelList}
 use Rattle.levels.specs.Rooms.{written}
-use Rattle.levels.specs.Levels.{levels_of, base, start_in, sides_in}
+use Rattle.levels.specs.Levels.{Levels, levels_of, base, start_in, sides_in, firsts}
 use Rattle.levels.specs.AllLabels.{LabelsIn}
 use Rattle.bands.specs.Lists.{list_of, air_of}
 
@@ -27,17 +24,28 @@ unfoldable pub lists_before : Sides → List ℕ → ℕ → ℕ → List ℕ
 lists_before g ls count zero = []
 lists_before g ls count (suc k) = lists_before g ls count k ++ air_at g ls count k
 
--- a number for each of the first k of six levels, 0 for the others
-unfoldable pub firsts : (ℕ → ℕ) → ℕ → List ℕ
-firsts f k = tab 6 (λ j. cond (ltb j k) (f j) 0)
+-- six lists, one for each level
+abbrev pub Lists : Type 0
+Lists = List LevelList
 
--- where the lists of the first k levels start, how much of each is swept, and how long it is
-unfoldable pub lists_to : Sides → List ℕ → ℕ → ℕ → Lists
-lists_to g ls count k = record {
-  start = firsts (λ j. length (lists_before g ls count j)) k;
-  count = firsts (λ j. length (list_at g ls count j)) k;
-  air = firsts (λ j. length (air_at g ls count j)) k;
+-- the list of level j: where it starts, how much of it is swept, and how long it is
+unfoldable pub list_row : Sides → List ℕ → ℕ → ℕ → LevelList
+list_row g ls count j = record {
+  start = length (lists_before g ls count j);
+  swept = length (list_at g ls count j);
+  air = length (air_at g ls count j);
 }
+
+-- the lists of the first k levels, 0 for the others
+abbrev pub no_list : LevelList
+no_list = record { start = 0; swept = 0; air = 0 }
+
+-- of six lists, what is read of level k's; 0 beyond the sixth
+abbrev pub row_in : Lists → ℕ → LevelList
+row_in s k = get_or s k no_list
+
+unfoldable pub lists_to : Sides → List ℕ → ℕ → ℕ → Lists
+lists_to g ls count k = firsts no_list (list_row g ls count) k
 
 -- what count levels' lists leave in the room e, and what comes back of them
 pub record AllListed (g : Sides) (ls : List ℕ) (count : ℕ) (e : List ℕ) (r : Lists) (s : List ℕ) : Type 0 where
@@ -56,14 +64,6 @@ list_in l count bytes k = list_of (ltb (k + 1) count) (sides_in l k) (part_in l 
 
 unfoldable pub air_in : Levels → ℕ → List ℕ → ℕ → List ℕ
 air_in l count bytes k = air_of (ltb (k + 1) count) (sides_in l k) (part_in l k bytes)
-
-abbrev pub list_set : Lists → ℕ → ℕ → ℕ → ℕ → Lists
-list_set l k at n m = record { start = set l.start k at; count = set l.count k n; air = set l.air k m }
-
--- level k's air is written after that before it, and so much of it is swept
-pub record Gathered (e swept air : List ℕ) (k : ℕ) (f r : Gather) (s : List ℕ) : Type 0 where
-  pub is : r ≡ record { lists = list_set f.lists k f.next (length swept) (length air); next = f.next + length air }
-  pub room : s ≡ written e f.next air
 
 -- ---- what is asked
 -- level k's lists from place a on, in a room of the given length

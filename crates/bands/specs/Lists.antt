@@ -6,7 +6,7 @@ use Rattle.method.specs.Cast.{cells, is_air}
 use Rattle.method.specs.Cycle.{in_band}
 use Rattle.theory.specs.Waves.{waves}
 use Rattle.grid.specs.Entries.{entry_of}
-use Rattle.bands.specs.declared.lists.Counts.{Counts}
+use Rattle.bands.specs.declared.lists.LevelList.{LevelList}
 use Rattle.levels.specs.Rooms.{written}
 
 -- the test of a level's cells: in the band, or air; and the entries of the cells that pass, wave by wave
@@ -41,8 +41,9 @@ pub record Listed (e : List ℕ) (a : ℕ) (l : List ℕ) (r : ℕ) (s : List �
   pub count : r ≡ length l
   pub room : s ≡ written e a l
 
--- all is written to the room from place a on, and r says how much of it is swept, and how long it is
-pub record LevelListed (e : List ℕ) (a : ℕ) (swept all : List ℕ) (r : Counts) (s : List ℕ) : Type 0 where
+-- all is written to the room from place a on, and r says so, how much of it is swept, and how long it is
+pub record LevelListed (e : List ℕ) (a : ℕ) (swept all : List ℕ) (r : LevelList) (s : List ℕ) : Type 0 where
+  pub start : r.start ≡ a
   pub count : r.swept ≡ length swept
   pub whole : r.air ≡ length all
   pub room : s ≡ written e a all

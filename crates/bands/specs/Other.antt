@@ -37,9 +37,8 @@ unfoldable pub corner_of : Sides → Spot → ℕ
 corner_of g s = cond (block_in g s) (number g (2 * ((s.x + 1) / 2 - 1)) (2 * ((s.y + 1) / 2 - 1)) (2 * ((s.z + 1) / 2 - 1))) (cells g)
 
 -- the block is in the box, which has a label for each cell, and begins at first
-pub record BlockAsked (g h : Sides) (s : Spot) (first labels : ℕ) : Type 0 where
+pub record BlockAsked (g : Sides) (s : Spot) (first labels : ℕ) : Type 0 where
   pub fine : Fit g
-  pub next : h ≡ halved g
   pub is : first ≡ corner_of g s
   pub inside : first < cells g
   pub full : cells g ≤ labels

@@ -1,6 +1,7 @@
 // The band of a level: the air cells that a prolongation reaches from a coarse cell with a child that isn't air.
 ghost use Rattle.std.specs.Prelude.{◌≡◌, ◌≤◌, ◌<◌, leb, length};
 ghost use Rattle.method.specs.Cast.{cells};
+ghost use Rattle.method.specs.Levels.{halved};
 ghost use Rattle.method.specs.Cycle.{in_band};
 ghost use Rattle.theory.specs.Sides.{Fit};
 ghost use Rattle.levels.specs.Kin.{Near, Begun, child_at, parent_at, parent_spot, first_child, child_step};
@@ -58,16 +59,12 @@ fn first_child(g: Sides, n: usize, s: Spot) -> usize
     let x = 2 * s.x;
     let y = 2 * s.y;
     let z = 2 * s.z;
-    if (g.nx as usize) <= x + 1 {
-        return n;
+    let whole = x + 1 < (g.nx as usize) && y + 1 < (g.ny as usize) && z + 1 < (g.nz as usize);
+    if whole {
+        grid::place::number_of(g, x, y, z)
+    } else {
+        n
     }
-    if (g.ny as usize) <= y + 1 {
-        return n;
-    }
-    if (g.nz as usize) <= z + 1 {
-        return n;
-    }
-    grid::place::number_of(g, x, y, z)
 }
 
 // How far the t-th child is from the first.
@@ -117,30 +114,20 @@ fn corner(g: Sides, n: usize, s: Spot) -> usize
     let x = (s.x + 1) / 2;
     let y = (s.y + 1) / 2;
     let z = (s.z + 1) / 2;
-    if x < 1 {
-        return n;
+    let begun = 0 < x && 0 < y && 0 < z;
+    let ended = 2 * x + 1 < (g.nx as usize)
+        && 2 * y + 1 < (g.ny as usize)
+        && 2 * z + 1 < (g.nz as usize);
+    if begun && ended {
+        grid::place::number_of(g, 2 * (x - 1), 2 * (y - 1), 2 * (z - 1))
+    } else {
+        n
     }
-    if (g.nx as usize) <= 2 * x + 1 {
-        return n;
-    }
-    if y < 1 {
-        return n;
-    }
-    if (g.ny as usize) <= 2 * y + 1 {
-        return n;
-    }
-    if z < 1 {
-        return n;
-    }
-    if (g.nz as usize) <= 2 * z + 1 {
-        return n;
-    }
-    grid::place::number_of(g, 2 * (x - 1), 2 * (y - 1), 2 * (z - 1))
 }
 
 // Whether the t-th child of the q-th coarse cell isn't air, all of them in the box, the first of the first at `first`.
-fn block_other(labels: &[u8], g: Sides, h: Sides, s: Spot, first: usize, q: usize, t: usize) -> bool
-    requires block_asked { BlockAsked g h s first (length labels.now) }
+fn block_other(labels: &[u8], g: Sides, s: Spot, first: usize, q: usize, t: usize) -> bool
+    requires block_asked { BlockAsked g s first (length labels.now) }
     requires q_bound { (q < 8) × (t < 8) }
     ensures { result ≡ child_other labels.now g (parent_spot s q) t }
 {
@@ -148,53 +135,72 @@ fn block_other(labels: &[u8], g: Sides, h: Sides, s: Spot, first: usize, q: usiz
     labels[at] != 0
 }
 
-// Whether a coarse cell that gives to the cell at s has a child that isn't air, where all are in the box. Left at the
-// first such child.
-fn in_block_other(labels: &[u8], g: Sides, h: Sides, s: Spot, first: usize) -> bool
-    requires { BlockAsked g h s first (length labels.now) }
-    ensures { result ≡ some (parent_other labels.now g h s) 8 }
+// Whether the q-th coarse cell has a child that isn't air, where all are in the box. Left at the first such child.
+fn block_parent_other(labels: &[u8], g: Sides, s: Spot, first: usize, q: usize) -> bool
+    requires block_asked { BlockAsked g s first (length labels.now) }
+    requires q_bound { q < 8 }
+    ensures { result ≡ parent_other labels.now g (halved g) s q }
 {
-    let mut found = false;
-    let mut q = 0;
-    'coarse: while q < 8 {
-        let mut t = 0;
-        while t < 8 {
-            if block_other(labels, g, h, s, first, q, t) {
-                found = true;
-                break 'coarse;
-            }
-            t += 1;
+    for t in 0..8 {
+        if block_other(labels, g, s, first, q, t) {
+            return true;
         }
-        q += 1;
     }
-    found
+    false
 }
 
-// The same wherever they are; a coarse place outside counts as having one.
+// Whether a coarse cell that gives to the cell at s has one, where all are in the box. Left at the first such child.
+fn in_block_other(labels: &[u8], g: Sides, s: Spot, first: usize) -> bool
+    requires { BlockAsked g s first (length labels.now) }
+    ensures { result ≡ some (parent_other labels.now g (halved g) s) 8 }
+{
+    for q in 0..8 {
+        if block_parent_other(labels, g, s, first, q) {
+            return true;
+        }
+    }
+    false
+}
+
+// Whether the q-th coarse cell has a child that isn't air, wherever they are; a coarse place outside counts as having
+// one.
+fn parent_has_other(
+    labels: &[u8],
+    g: Sides,
+    h: Sides,
+    n: usize,
+    m: usize,
+    s: Spot,
+    q: usize,
+) -> bool
+    requires around_asked { AroundAsked g h n m s }
+    requires q_bound { q < 8 }
+    ensures { result ≡ parent_other labels.now g h s q }
+{
+    if is_outside(h, m, s, q) {
+        return true;
+    }
+    let k = parent_spot(s, q);
+    let first = first_child(g, n, k);
+    for t in 0..8 {
+        if is_other(labels, g, n, k, first, t) {
+            return true;
+        }
+    }
+    false
+}
+
+// Whether a coarse cell that gives to the cell at s has one. Left at the first such child.
 fn around_other(labels: &[u8], g: Sides, h: Sides, n: usize, m: usize, s: Spot) -> bool
     requires { AroundAsked g h n m s }
     ensures { result ≡ some (parent_other labels.now g h s) 8 }
 {
-    let mut found = false;
-    let mut q = 0;
-    'coarse: while q < 8 {
-        if is_outside(h, m, s, q) {
-            found = true;
-            break 'coarse;
+    for q in 0..8 {
+        if parent_has_other(labels, g, h, n, m, s, q) {
+            return true;
         }
-        let k = parent_spot(s, q);
-        let first = first_child(g, n, k);
-        let mut t = 0;
-        while t < 8 {
-            if is_other(labels, g, n, k, first, t) {
-                found = true;
-                break 'coarse;
-            }
-            t += 1;
-        }
-        q += 1;
     }
-    found
+    false
 }
 
 // Whether cell c is in the band. h is the sides of the next level, n and m the numbers of cells of the two.
@@ -207,10 +213,8 @@ pub fn in_band(labels: &[u8], g: Sides, h: Sides, n: usize, m: usize, c: usize) 
     }
     let s = grid::place::spot_of(g, c);
     let first = corner(g, n, s);
-    if first < n {
-        if n <= labels.len() {
-            return in_block_other(labels, g, h, s, first);
-        }
+    if first < n && n <= labels.len() {
+        return in_block_other(labels, g, s, first);
     }
     around_other(labels, g, h, n, m, s)
 }

@@ -10,111 +10,71 @@ ghost use Rattle.grid.specs.Entries.{entry_of};
 ghost use Rattle.bands.specs.Other.{BandAsked};
 ghost use Rattle.levels.specs.Levels.{base};
 ghost use Rattle.bands.specs.Lists.{Placed, Listed, LevelListed, smoothed, list_of, left, left_at, left_of, air_of};
-ghost use Rattle.bands.specs.AllLists.{list_in, air_in, list_set, base_labels, LevelAsked, ListsAsked, Gathered, AllListed};
+ghost use Rattle.bands.specs.AllLists.{list_in, air_in, base_labels, LevelAsked, ListsAsked, AllListed};
 
 use levels::sides::Levels;
 use method::Sides;
 
-// Where each level's list starts, how much of it is swept, and how long it is; 0 on levels that aren't used.
+// A level's list: where it starts, how much of it is swept, and how long it is.
 #[derive(Clone, Copy)]
-pub struct Lists {
-    pub start: [usize; 6],
-    pub count: [usize; 6],
-    pub air: [usize; 6],
-}
-
-// Of one level: how much of its list is swept, and how long it is.
-#[derive(Clone, Copy)]
-pub struct Counts {
+pub struct LevelList {
+    pub start: usize,
     pub swept: usize,
     pub air: usize,
 }
 
-// The lists written down so far, and the place after them.
-#[derive(Clone, Copy)]
-pub struct Gather {
-    pub lists: Lists,
-    pub next: usize,
-}
+// Six of them, 0 on levels that aren't used.
+pub type Lists = [LevelList; 6];
 
-// The entry of cell c of n is written to the next place if the cell is to be kept. The next place comes back.
-fn keep(
-    words: &mut [u32],
-    next: usize,
-    labels: &[u8],
-    g: Sides,
-    n: usize,
-    c: usize,
-    yes: bool,
-) -> usize
+// Kept: labels, g and band go from function to function. A struct of the three holds a `&`, so that each `ensures` would
+// have to write `l.entry.labels.now` for `labels.now`.
+
+// The entry of cell c is written to the next place if the cell is to be kept. The next place comes back.
+fn keep(words: &mut [u32], next: usize, labels: &[u8], g: Sides, c: usize, yes: bool) -> usize
     requires fit { Fit g }
-    requires n_value { (n ≡ cells g) × (c < cells g) × (next + length (kept yes c) ≤ length words.old) }
+    requires c_bound { (c < cells g) × (next + length (kept yes c) ≤ length words.old) }
     ensures { Placed (entry_of g labels.now) words.old next (kept yes c) result words.new }
 {
     if yes {
+        let n = grid::place::cell_count(g);
         words[next] = grid::entry::entry_of(labels, g, n, c);
         return next + 1;
     }
     next
 }
 
-// Cell c, if it is in the band.
-fn keep_band(
-    words: &mut [u32],
-    next: usize,
-    labels: &[u8],
-    g: Sides,
-    h: Sides,
-    n: usize,
-    m: usize,
-    c: usize,
-) -> usize
-    requires band_asked { BandAsked g h n m c }
-    requires c_in_bounds { next + length (kept (in_band g labels.now c) c) ≤ length words.old }
-    ensures { Placed (entry_of g labels.now) words.old next (kept (in_band g labels.now c) c) result words.new }
-{
-    keep(
-        words,
-        next,
-        labels,
-        g,
-        n,
-        c,
-        crate::band::in_band(labels, g, h, n, m, c),
-    )
-}
-
-// Cell c, if it is air.
-fn keep_air(words: &mut [u32], next: usize, labels: &[u8], g: Sides, n: usize, c: usize) -> usize
+// Whether cell c is in the band.
+fn is_in_band(labels: &[u8], g: Sides, c: usize) -> bool
     requires fit { Fit g }
-    requires n_value { (n ≡ cells g) × (c < cells g) × (next + length (kept (is_air labels.now c) c) ≤ length words.old) }
-    ensures { Placed (entry_of g labels.now) words.old next (kept (is_air labels.now c) c) result words.new }
+    requires c_bound { c < cells g }
+    ensures { result ≡ in_band g labels.now c }
 {
-    keep(
-        words,
-        next,
-        labels,
-        g,
-        n,
-        c,
-        grid::near::label_at(labels, c) == 0,
-    )
+    let h = levels::sides::halved_of(g);
+    let n = grid::place::cell_count(g);
+    let m = grid::place::cell_count(h);
+    crate::band::in_band(labels, g, h, n, m, c)
 }
 
-// Cell c, if it is to be smoothed: in the band, or air.
+// Whether cell c is to be smoothed: in the band, or air.
+fn is_smoothed(labels: &[u8], g: Sides, band: bool, c: usize) -> bool
+    requires fit { Fit g }
+    requires c_bound { c < cells g }
+    ensures { result ≡ smoothed band g labels.now c }
+{
+    if band {
+        is_in_band(labels, g, c)
+    } else {
+        grid::near::label_at(labels, c) == 0
+    }
+}
+
+// Cell c, if it is to be smoothed.
 fn keep_cell(words: &mut [u32], next: usize, labels: &[u8], g: Sides, band: bool, c: usize) -> usize
     requires fit { Fit g }
     requires c_bound { (c < cells g) × (next + length (kept (smoothed band g labels.now c) c) ≤ length words.old) }
     ensures { Placed (entry_of g labels.now) words.old next (kept (smoothed band g labels.now c) c) result words.new }
 {
-    let n = grid::place::cell_count(g);
-    if band {
-        let h = levels::sides::halved_of(g);
-        let m = grid::place::cell_count(h);
-        keep_band(words, next, labels, g, h, n, m, c)
-    } else {
-        keep_air(words, next, labels, g, n, c)
-    }
+    keep(words, next, labels, g, c, is_smoothed(labels, g, band, c))
 }
 
 // The cell of wave w at j and k, if there is one and it is to be smoothed.
@@ -162,10 +122,8 @@ fn keep_line(
 {
     let n = g.ny as usize;
     let mut next = at;
-    let mut j = 0;
-    while j < n {
+    for j in 0..n {
         next = keep_at(words, next, labels, g, band, w, k, j);
-        j += 1;
     }
     next
 }
@@ -178,10 +136,8 @@ fn keep_wave(words: &mut [u32], at: usize, labels: &[u8], g: Sides, band: bool, 
 {
     let n = g.nz as usize;
     let mut next = at;
-    let mut k = 0;
-    while k < n {
+    for k in 0..n {
         next = keep_line(words, next, labels, g, band, w, k);
-        k += 1;
     }
     next
 }
@@ -194,10 +150,8 @@ pub fn wave_list(words: &mut [u32], at: usize, labels: &[u8], g: Sides, band: bo
 {
     let n = (g.nx as usize) + (g.ny as usize) + (g.nz as usize);
     let mut next = at;
-    let mut w = 0;
-    while w < n {
+    for w in 0..n {
         next = keep_wave(words, next, labels, g, band, w);
-        w += 1;
     }
     next - at
 }
@@ -213,10 +167,7 @@ fn is_left(labels: &[u8], g: Sides, band: bool, c: usize) -> bool
         return false;
     }
     if band {
-        let h = levels::sides::halved_of(g);
-        let n = grid::place::cell_count(g);
-        let m = grid::place::cell_count(h);
-        if crate::band::in_band(labels, g, h, n, m, c) {
+        if is_in_band(labels, g, c) {
             return false;
         }
         return true;
@@ -230,8 +181,7 @@ fn keep_left(words: &mut [u32], next: usize, labels: &[u8], g: Sides, band: bool
     requires c_bound { (c < cells g) × (next + length (left_at band g labels.now c) ≤ length words.old) }
     ensures { Placed (entry_of g labels.now) words.old next (left_at band g labels.now c) result words.new }
 {
-    let n = grid::place::cell_count(g);
-    keep(words, next, labels, g, n, c, is_left(labels, g, band, c))
+    keep(words, next, labels, g, c, is_left(labels, g, band, c))
 }
 
 // The cells that are left, by ascending number, from place `at` on; how many they are.
@@ -242,23 +192,22 @@ fn left_list(words: &mut [u32], at: usize, labels: &[u8], g: Sides, band: bool) 
 {
     let n = grid::place::cell_count(g);
     let mut next = at;
-    let mut c = 0;
-    while c < n {
+    for c in 0..n {
         next = keep_left(words, next, labels, g, band, c);
-        c += 1;
     }
     next - at
 }
 
 // All air of a level from place `at` on: what is swept, and then what is left.
-fn air_list(words: &mut [u32], at: usize, labels: &[u8], g: Sides, band: bool) -> Counts
+fn air_list(words: &mut [u32], at: usize, labels: &[u8], g: Sides, band: bool) -> LevelList
     requires fit { Fit g }
     requires labels_in_bounds { at + interior g labels.now ≤ length words.old }
     ensures { LevelListed words.old at (list_of band g labels.now) (air_of band g labels.now) result words.new }
 {
     let swept = wave_list(words, at, labels, g, band);
     let rest = left_list(words, at + swept, labels, g, band);
-    Counts {
+    LevelList {
+        start: at,
         swept,
         air: swept + rest,
     }
@@ -273,49 +222,14 @@ fn level_list(
     l: Levels,
     count: usize,
     k: usize,
-) -> Counts
+) -> LevelList
     requires { LevelAsked l k at bytes.now (length words.old) }
     ensures { LevelListed words.old at (list_in l count bytes.now k) (air_in l count bytes.now k) result words.new }
 {
-    let g = levels::sides::sides_at(l, k);
-    let from = l.start[k];
-    let to = from + grid::place::cell_count(g);
+    let level = l[k];
+    let to = level.start + grid::place::cell_count(level.sides);
     let band = k + 1 < count;
-    air_list(words, at, &bytes[from..to], g, band)
-}
-
-// Level k's list is written down.
-fn with_list(l: Lists, k: usize, at: usize, swept: usize, air: usize) -> Lists
-    requires { k < 6 }
-    ensures { result ≡ list_set l k at swept air }
-{
-    let mut m = l;
-    m.start[k] = at;
-    m.count[k] = swept;
-    m.air[k] = air;
-    m
-}
-
-// Level k's list after those before it.
-fn gather_at(
-    words: &mut [u32],
-    bytes: &[u8],
-    l: Levels,
-    count: usize,
-    k: usize,
-    f: Gather,
-) -> Gather
-    requires { LevelAsked l k f.next bytes.now (length words.old) }
-    ensures { Gathered words.old (list_in l count bytes.now k) (air_in l count bytes.now k) k f result words.new }
-{
-    let lists = f.lists;
-    let at = f.next;
-    let n = level_list(words, at, bytes, l, count, k);
-    let air = n.air;
-    Gather {
-        lists: with_list(lists, k, at, n.swept, air),
-        next: at + air,
-    }
+    air_list(words, at, &bytes[level.start..to], level.sides, band)
 }
 
 // The lists of the levels 0 to count - 1, one after the other.
@@ -323,18 +237,16 @@ pub fn all_lists(words: &mut [u32], bytes: &[u8], l: Levels, count: usize) -> Li
     requires { ListsAsked l count bytes.now (length words.old) }
     ensures { AllListed (base l) (base_labels l bytes.now) count words.old result words.new }
 {
-    let mut f = Gather {
-        lists: Lists {
-            start: [0; 6],
-            count: [0; 6],
-            air: [0; 6],
-        },
-        next: 0,
-    };
-    let mut k = 0;
-    while k < count {
-        f = gather_at(words, bytes, l, count, k, f);
-        k += 1;
+    let mut lists = [LevelList {
+        start: 0,
+        swept: 0,
+        air: 0,
+    }; 6];
+    let mut next = 0;
+    for k in 0..count {
+        let list = level_list(words, next, bytes, l, count, k);
+        lists[k] = list;
+        next += list.air;
     }
-    f.lists
+    lists
 }

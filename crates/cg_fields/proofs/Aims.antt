@@ -1,20 +1,19 @@
 -- The new direction: at every cell where beta is finite, else at entries' cells by way of t. Assumes nothing.
 use Prim.Native.Nat.{ℕ, zero, suc, ◌+◌, ◌-◌, ◌*◌, ◌%◌, ◌≤◌, ◌<◌}
 use mathlib.Core.Path.{◌≡◌, refl, sym, ap, ap₂, ◌∙◌}
-use mathlib.Core.Bool.{Bool, true, false, cond}
+use mathlib.Core.Bool.{true, false, cond}
 use mathlib.Core.List.{List, ◌++◌}
 use native.Mathlib.Omega.{arith}
 use borrow.Author.Rules.{rules}
-use lib.ListN.{length, get_or, set, take, drop, length-drop}
-use lib.Seq.{get_or-drop, get_or-set_other}
+use lib.ListN.{length, get_or, set, take, drop}
+use lib.Seq.{get_or-set_other}
 use lib.Ieee.{Float, nan, inf, fin, lt}
 use Rattle.laws.specs.Binary64.{+0}
 use Rattle.laws.specs.Loops.{up}
 use Rattle.laws.specs.Lists.{tab}
-use Rattle.laws.proofs.Loops.{Up, ups, up_more, up_end}
+use Rattle.laws.proofs.Loops.{Up, up_more, up_end}
 use Rattle.laws.proofs.Lists.{length_tab, get_or_tab}
 use Rattle.laws.proofs.Fill.{tab_same, part_take, part_drop}
-use Rattle.laws.proofs.Fills.{filled, tab_take}
 use Rattle.method.specs.declared.Sides.{Sides}
 use Rattle.method.specs.Cast.{cells, is_air}
 use Rattle.method.specs.Transfers.{value, in_air}
@@ -121,20 +120,6 @@ module _ {from : ℕ} {f : ℕ → List Float → Float} {es : List ℕ} where
 
 pub ruleset listing = (rules, cells_at, listed_none, listed_more)
 
--- ---- t goes to p
-abbrev pub take_turn : ℕ → ℕ → List Float → List Float
-take_turn n c r = set r (n + c) (value r (4 * n + c))
-
-pub take_t_is : (n : ℕ) (s t : List Float) → 5 * n ≤ length s → t ≡ up (take_turn n) n s → t ≡ take n s ++ (t_of n s ++ drop (n + n) s)
-take_t_is n s t h e =
-    e ∙ filled (take_turn n) (λ c r. value r (4 * n + c)) n n s (λ c r. refl) (λ c i x r a b. get_or-set_other r (n + i) (4 * n + c) x nan (λ p. omega arith)) (omega arith)
-    ∙ ap (λ v. take n s ++ (v ++ drop (n + n) s)) (field_tab n (4 * n) s (omega arith))
-  where
-    field_tab : (n k : ℕ) (s : List Float) → k + n ≤ length s → tab n (λ c. value s (k + c)) ≡ take n (drop k s)
-    field_tab n k s h = tab_same n _ _ (λ c l. sym (get_or-drop k s c nan)) ∙ tab_take n (drop k s) nan (omega (arith, length-drop k s))
-
-pub ruleset taking = (ups, take_t_is)
-
 -- ---- THE LAW: t cleared, the direction at entries' cells into t, t to p
 aim_unread : (N done : ℕ) (beta : Float) (c i : ℕ) (x : Float) (r : List Float) → c < N → aim_new N done beta c (set r (4 * N + i) x) ≡ aim_new N done beta c r
 unfolding aim_new
@@ -234,16 +219,6 @@ by_list_is n done beta es s m w t em ew et h g ls a =
     (ew ∙ ap (λ n. written (4 * n) (aim_new n done beta) (cells_of es) m) k)
     (et ∙ ap (λ n. take n w ++ (t_of n w ++ drop (n + n) w)) k)
 
--- ---- either way
+-- ---- whether beta is finite, as the code has tested it
 pub finite_from : (b : Bool) (x : Float) → b ≡ finite x → b ≡ true → finite x ≡ true
 finite_from b x e h = sym e ∙ h
-
-pub aim_either_all : (n done : ℕ) (beta : Float) (es : List ℕ) (s t : List Float)
-    → ((g : Sides) (ls : List ℕ) → n ≡ cells g → Quiet g ls (z_of (cells g) s) → Quiet g ls (p_of (cells g) s) → Aimed g ls done beta s t)
-    → (g : Sides) (ls : List ℕ) → AirEntries g ls n g.nx (g.nx * g.ny) es → Quiet g ls (z_of (cells g) s) → Quiet g ls (p_of (cells g) s) → Aimed g ls done beta s t
-aim_either_all n done beta es s t h g ls a z p = h g ls a.entries.n_is z p
-
-pub aim_either_list : (n done : ℕ) (beta : Float) (es : List ℕ) (s t : List Float)
-    → ((g : Sides) (ls : List ℕ) → AirEntries g ls n g.nx (g.nx * g.ny) es → Aimed g ls done beta s t)
-    → (g : Sides) (ls : List ℕ) → AirEntries g ls n g.nx (g.nx * g.ny) es → Quiet g ls (z_of (cells g) s) → Quiet g ls (p_of (cells g) s) → Aimed g ls done beta s t
-aim_either_list n done beta es s t h g ls a z p = h g ls a

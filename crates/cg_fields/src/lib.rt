@@ -39,10 +39,8 @@ fn load(room: &mut [f64], labels: &[u8], values: &[i32], g: method::Sides)
     requires values_len { length values.now ≡ cells g }
     ensures { room.new ≡ take (3 * cells g) room.old ++ (right_side (record { sides = g; labels = labels.now; values = values.now }) ++ drop (4 * cells g) room.old) }
 {
-    let mut c = 0;
-    while c < labels.len() {
+    for c in 0..labels.len() {
         load_at(room, labels, values, g, c);
-        c += 1;
     }
 }
 
@@ -52,6 +50,6 @@ pub fn start(room: &mut [f64], labels: &[u8], values: &[i32], g: method::Sides)
     requires values_len { length values.now ≡ cells g }
     ensures { room.new ≡ zeros g ++ (zeros g ++ (z_of (cells g) room.old ++ (right_side (record { sides = g; labels = labels.now; values = values.now }) ++ drop (4 * cells g) room.old))) }
 {
-    smooth::clear_front(room, 2 * labels.len());
+    rooms::clear_front(room, 2 * labels.len(), 0.0);
     load(room, labels, values, g);
 }

@@ -1,93 +1,136 @@
--- Laws of checks one after the other, and of the rulings that the code makes of them. Assumes nothing.
-use mathlib.Core.Path.{◌≡◌, refl, sym, ap, ap₂, ◌∙◌}
-use mathlib.Core.Bool.{Bool, true, false, not}
-use mathlib.Core.List.{List, [], ◌∷◌}
-use Prim.Native.Nat.{ℕ}
-use native.Mathlib.Omega.{arith}
+-- Laws of checks one after the other, and of the faults that the code makes of them. Assumes nothing.
+use Rattle.std.specs.Prelude.{◌≡◌, ℕ, Bool, true, false, not, List, [], ◌∷◌, Option, Some, None, Result, Ok, Err, refl}
+use Rattle.std.proofs.Common.{sym, ap, ap₂, ◌∙◌}
 use borrow.Author.Rules.{rules}
-use Rattle.method.specs.declared.Found.{Found}
-use Rattle.method.specs.declared.Found.TheVariants.{Nowhere, At}
-use Rattle.method.specs.Answers.{Check, fault, Verdict, passed, refused, verdict}
-use Rattle.theory.proofs.Verdicts.{after, verdict_cons, fault_no, fault_yes}
-use Rattle.checks.specs.Rulings.{ruling_of, ruling_by, first_of}
-use Rattle.checks.specs.declared.Ruling.{Ruling}
-use Rattle.checks.specs.declared.Ruling.TheVariants.{Refused, Allowed}
+use Rattle.method.specs.Answers.{Check, fault, refused, verdict}
+use Rattle.theory.proofs.Verdicts.{after, verdict_cons, fault_no}
+use Rattle.answers.specs.declared.Fault.{Fault}
+use Rattle.answers.specs.declared.Fault.TheVariants.{SideOutOfRange, WrongLength, SettingOutOfRange, BadLabel, BadValue, NoAir, SealedAir, BadLine, BadBody, Inexpressible}
+use Rattle.checks.specs.Rulings.{ruling_of, ruling_by, unless, first_of}
+
+-- a fault's kind has a number of the table, and its place is the one that it is given
+pub record Numbered (num : ℕ) (kind : ℕ → Fault) : Type 0 where
+  pub is : (p : ℕ) → refused num p ≡ ruling_of (Err (kind p))
+
+-- a fault that has no place
+pub record Placeless (num : ℕ) (e : Fault) : Type 0 where
+  pub is : refused num 0 ≡ ruling_of (Err e)
+
+pub side_is : Placeless 1 SideOutOfRange
+side_is = record { is = refl }
+
+pub length_is : Placeless 2 WrongLength
+length_is = record { is = refl }
+
+pub setting_is : Placeless 3 SettingOutOfRange
+setting_is = record { is = refl }
+
+pub label_is : Numbered 4 BadLabel
+label_is = record { is = λ p. refl }
+
+pub value_is : Numbered 5 BadValue
+value_is = record { is = λ p. refl }
+
+pub no_air_is : Placeless 6 NoAir
+no_air_is = record { is = refl }
+
+pub sealed_is : Numbered 7 SealedAir
+sealed_is = record { is = λ p. refl }
+
+pub line_is : Numbered 10 BadLine
+line_is = record { is = λ p. refl }
+
+pub body_is : Placeless 11 BadBody
+body_is = record { is = refl }
+
+pub inexpressible_is : Numbered 13 Inexpressible
+inexpressible_is = record { is = λ p. refl }
 
 -- ---- one check more
-by_found : (k : ℕ) (f : Found) (r : Ruling) → after k f (ruling_of r) ≡ ruling_of (first_of (ruling_by k f) r)
-unfolding ruling_of first_of ruling_by
-by_found k (At p) r = refl
-by_found k Nowhere r = refl
+by_found : {k : ℕ} {kind : ℕ → Fault} → Numbered k kind → (f : Option ℕ) (r : Result (Unit {0}) Fault) → after k f (ruling_of r) ≡ ruling_of (first_of (ruling_by kind f) r)
+by_found h (Some p) r = h.is p
+by_found h None r = refl
 
-pub first_assoc : (a b c : Ruling) → first_of (first_of a b) c ≡ first_of a (first_of b c)
-unfolding first_of
-first_assoc (Refused k p) b c = refl
-first_assoc Allowed b c = refl
+by_test : {k : ℕ} {e : Fault} → Placeless k e → (b : Bool) (r : Result (Unit {0}) Fault) → after k (fault (not b)) (ruling_of r) ≡ ruling_of (first_of (unless e b) r)
+unfolding fault
+by_test h true r = refl
+by_test h false r = h.is
 
-pub last_ruling : (r : Ruling) → first_of r Allowed ≡ r
-unfolding first_of
-last_ruling (Refused k p) = refl
-last_ruling Allowed = refl
+pub first_assoc : (a b c : Result (Unit {0}) Fault) → first_of (first_of a b) c ≡ first_of a (first_of b c)
+first_assoc (Err e) b c = refl
+first_assoc (Ok u) b c = refl
 
--- a verdict as a ruling
-abbrev pub ruling_in : Verdict → Ruling
-ruling_in passed = Allowed
-ruling_in (refused k p) = Refused k p
-
-pub ruling_in_lem : (v : Verdict) → v ≡ ruling_of (ruling_in v)
-unfolding ruling_of
-ruling_in_lem passed = refl
-ruling_in_lem (refused k p) = refl
+pub last_ruling : (r : Result (Unit {0}) Fault) → first_of r (Ok tt) ≡ r
+last_ruling (Err e) = refl
+last_ruling (Ok u) = refl
 
 -- nothing is against it: neither the first nor the second
-abbrev allowing : Ruling → ℕ
-allowing (Refused k p) = 0
-allowing Allowed = 1
+pub both_allowed : (a b : Result (Unit {0}) Fault) → first_of a b ≡ Ok tt → (a ≡ Ok tt) × (b ≡ Ok tt)
+both_allowed (Err e) b q = cc
+both_allowed (Ok u) b q = (refl, q)
 
-pub both_allowed : (a b : Ruling) → first_of a b ≡ Allowed → (a ≡ Allowed) × (b ≡ Allowed)
-unfolding first_of
-both_allowed (Refused k p) b e = absurd (omega (arith, ap allowing e))
-both_allowed Allowed b e = (refl, e)
+pub ruled_none : (kind : ℕ → Fault) (f : Option ℕ) → ruling_by kind f ≡ Ok tt → f ≡ None
+ruled_none kind (Some p) e = cc
+ruled_none kind None e = refl
 
-pub ruled_none : (k : ℕ) (f : Found) → ruling_by k f ≡ Allowed → f ≡ Nowhere
-unfolding ruling_by
-ruled_none k (At p) e = absurd (omega (arith, ap allowing e))
-ruled_none k Nowhere e = refl
+pub ruled_well : (e : Fault) (b : Bool) → unless e b ≡ Ok tt → b ≡ true
+ruled_well e true q = refl
+ruled_well e false q = cc
 
 module _ {A : Type 0} where
   -- the rulings of the checks, the earlier first, are their verdict
-  pub ruling_none : (a : A) → verdict [] a ≡ ruling_of Allowed
-  unfolding verdict ruling_of
+  pub ruling_none : (a : A) → verdict [] a ≡ ruling_of (Ok tt)
+  unfolding verdict
   ruling_none a = refl
 
-  pub ruling_more : (c : Check A) (cs : List (Check A)) (a : A) (f : Found) (r : Ruling) → c.fails a ≡ f → verdict cs a ≡ ruling_of r
-      → verdict (c ∷ cs) a ≡ ruling_of (first_of (ruling_by c.number f) r)
-  ruling_more c cs a f r e h = verdict_cons c cs a ∙ ap₂ (after c.number) e h ∙ by_found c.number f r
+  pub ruling_more : (c : Check A) (kind : ℕ → Fault) → Numbered c.number kind → (cs : List (Check A)) (a : A) (f : Option ℕ) (r : Result (Unit {0}) Fault) → c.fails a ≡ f → verdict cs a ≡ ruling_of r
+      → verdict (c ∷ cs) a ≡ ruling_of (first_of (ruling_by kind f) r)
+  ruling_more c kind k cs a f r e h = verdict_cons c cs a ∙ ap₂ (after c.number) e h ∙ by_found k f r
 
-  pub ruling_last : (c : Check A) (a : A) (f : Found) → c.fails a ≡ f → verdict (c ∷ []) a ≡ ruling_of (ruling_by c.number f)
-  ruling_last c a f e = ruling_more c [] a f Allowed e (ruling_none a) ∙ ap ruling_of (last_ruling (ruling_by c.number f))
+  pub ruling_last : (c : Check A) (kind : ℕ → Fault) → Numbered c.number kind → (a : A) (f : Option ℕ) → c.fails a ≡ f → verdict (c ∷ []) a ≡ ruling_of (ruling_by kind f)
+  ruling_last c kind k a f e = ruling_more c kind k [] a f (Ok tt) e (ruling_none a) ∙ ap ruling_of (last_ruling (ruling_by kind f))
+
+  -- the same of a check that has no place
+  pub test_more : (c : Check A) (e : Fault) → Placeless c.number e → (cs : List (Check A)) (a : A) (b : Bool) (r : Result (Unit {0}) Fault) → c.fails a ≡ fault (not b) → verdict cs a ≡ ruling_of r
+      → verdict (c ∷ cs) a ≡ ruling_of (first_of (unless e b) r)
+  test_more c e k cs a b r q h = verdict_cons c cs a ∙ ap₂ (after c.number) q h ∙ by_test k b r
+
+  pub test_last : (c : Check A) (e : Fault) → Placeless c.number e → (a : A) (b : Bool) → c.fails a ≡ fault (not b) → verdict (c ∷ []) a ≡ ruling_of (unless e b)
+  test_last c e k a b q = test_more c e k [] a b (Ok tt) q (ruling_none a) ∙ ap ruling_of (last_ruling (unless e b))
+
+  -- a check that finds something ends the verdict, whatever comes after it; one that finds nothing hands it on
+  pub fault_ends : (c : Check A) (kind : ℕ → Fault) → Numbered c.number kind → (cs : List (Check A)) (a : A) (f : Option ℕ) (e : Fault) → c.fails a ≡ f → ruling_by kind f ≡ Err e → verdict (c ∷ cs) a ≡ ruling_of (Err e)
+  fault_ends c kind k cs a (Some p) e q h = verdict_cons c cs a ∙ ap (λ x. after c.number x (verdict cs a)) q ∙ k.is p ∙ ap ruling_of h
+  fault_ends c kind k cs a None e q h = cc
+
+  pub fault_passes : (c : Check A) (kind : ℕ → Fault) (cs : List (Check A)) (a : A) (f : Option ℕ) → c.fails a ≡ f → ruling_by kind f ≡ Ok tt → verdict (c ∷ cs) a ≡ verdict cs a
+  fault_passes c kind cs a f q h = verdict_cons c cs a ∙ ap (λ x. after c.number x (verdict cs a)) (q ∙ ruled_none kind f h)
+
+  pub test_ends : (c : Check A) (e d : Fault) → Placeless c.number e → (cs : List (Check A)) (a : A) (b : Bool) → c.fails a ≡ fault (not b) → unless e b ≡ Err d → verdict (c ∷ cs) a ≡ ruling_of (Err d)
+  unfolding fault
+  test_ends c e d k cs a true q h = cc
+  test_ends c e d k cs a false q h = verdict_cons c cs a ∙ ap (λ x. after c.number x (verdict cs a)) q ∙ k.is ∙ ap ruling_of h
+
+  pub test_passes : (c : Check A) (e : Fault) (cs : List (Check A)) (a : A) (b : Bool) → c.fails a ≡ fault (not b) → unless e b ≡ Ok tt → verdict (c ∷ cs) a ≡ verdict cs a
+  test_passes c e cs a b q h = verdict_cons c cs a ∙ ap (λ x. after c.number x (verdict cs a)) (q ∙ fault_no b (ruled_well e b h))
 
 -- ---- the code's cases
-pub unless_well : (b : Bool) → b ≡ true → Nowhere ≡ fault (not b)
-unless_well b e = sym (fault_no b e)
+pub unless_well : (e : Fault) (b : Bool) → b ≡ true → Ok tt ≡ unless e b
+unless_well e b q = rw q
 
-pub unless_not : (b : Bool) → b ≡ false → At 0 ≡ fault (not b)
-unless_not b e = sym (fault_yes b e)
+pub unless_not : (e : Fault) (b : Bool) → b ≡ false → Err e ≡ unless e b
+unless_not e b q = rw q
 
-pub ruled_at : (k p : ℕ) (f : Found) → f ≡ At p → Refused k p ≡ ruling_by k f
-unfolding ruling_by
-ruled_at k p f e = rw e
+pub ruled_at : (kind : ℕ → Fault) (p : ℕ) (f : Option ℕ) → f ≡ Some p → Err (kind p) ≡ ruling_by kind f
+ruled_at kind p f e = rw e
 
-pub ruled_nowhere : (k : ℕ) (f : Found) → f ≡ Nowhere → Allowed ≡ ruling_by k f
-unfolding ruling_by
-ruled_nowhere k f e = rw e
+pub ruled_nowhere : (kind : ℕ → Fault) (f : Option ℕ) → f ≡ None → Ok tt ≡ ruling_by kind f
+ruled_nowhere kind f e = rw e
 
-pub earlier_first : (a b : Ruling) (k p : ℕ) → a ≡ Refused k p → Refused k p ≡ first_of a b
-unfolding first_of
-earlier_first a b k p e = rw e
+pub first_fault : {T : Type 0} (a : Result (Unit {0}) Fault) (b : Result T Fault) (e : Fault) → a ≡ Err e → Err e ≡ first_of a b
+first_fault a b e q = rw q
 
-pub earlier_second : (a b : Ruling) → a ≡ Allowed → b ≡ first_of a b
-unfolding first_of
-earlier_second a b e = rw e
+pub first_passed : {T : Type 0} (a : Result (Unit {0}) Fault) (b : Result T Fault) (u : Unit {0}) → a ≡ Ok u → b ≡ first_of a b
+first_passed a b u q = rw q
 
-pub ruleset rulings = (rules, unless_well, unless_not, ruled_at, ruled_nowhere, earlier_first, earlier_second)
+pub ruleset rulings = (rules, unless_well, unless_not, first_fault, first_passed)

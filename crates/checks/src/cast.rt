@@ -1,14 +1,16 @@
 // The checks of sides, settings, labels and values.
-ghost use Rattle.std.specs.Prelude.{◌≡◌, not, ◌&&◌, ◌<◌, ◌≤◌, ltb, nat_abs, length};
-ghost use Rattle.method.specs.Cast.{sides_fit, settings_fit, widest, first};
+ghost use Rattle.std.specs.Prelude.{◌≡◌, ◌&&◌, ◌<◌, ◌≤◌, ltb, nat_abs, length};
+ghost use Rattle.method.specs.Cast.{sides_fit, settings_fit, interior, widest, first};
 ghost use Rattle.method.specs.Cast.{between as Cast·between};
-ghost use Rattle.method.specs.Answers.{fault};
+ghost use Rattle.answers.specs.declared.Fault.TheVariants.{SideOutOfRange, SettingOutOfRange, BadLabel, BadValue, NoAir};
+ghost use Rattle.theory.specs.Sides.{Fit};
 ghost use Rattle.checks.specs.Faults.{bad_label_at, bad_value_at, cell_ruling};
-ghost use Rattle.checks.specs.Rulings.{ruling_by};
+ghost use Rattle.checks.specs.Rulings.{ruling_by, unless};
 
-use crate::Ruling;
-use crate::rule::{earlier, fault_unless, ruled};
-use method::{Found, Settings, Sides};
+use answers::Fault;
+use grid::interior::interior;
+use method::{Settings, Sides};
+use search::first_where;
 
 // Whether a number is in a range.
 fn between(lo: u32, hi: u32, x: u32) -> bool
@@ -17,48 +19,48 @@ fn between(lo: u32, hi: u32, x: u32) -> bool
     lo <= x && x <= hi
 }
 
-// Whether three tests pass.
-fn all_three(a: bool, b: bool, c: bool) -> bool
-    ensures { result ≡ (a && (b && c)) }
-{
-    if a { if b { c } else { false } } else { false }
-}
-
 // Check 1: each side is 1 to 32.
+#[tactic(auto, unfolding(method::specs::Cast::sides_fit))]
 pub fn sides_fit(sides: Sides) -> bool
     ensures { result ≡ sides_fit sides }
 {
-    let x = between(1, 32, sides.nx);
-    let y = between(1, 32, sides.ny);
-    let z = between(1, 32, sides.nz);
-    all_three(x, y, z)
+    between(1, 32, sides.nx) && between(1, 32, sides.ny) && between(1, 32, sides.nz)
 }
 
 // Check 3: each setting is in its range.
+#[tactic(auto, unfolding(method::specs::Cast::settings_fit))]
 pub fn settings_fit(settings: Settings) -> bool
     ensures { result ≡ settings_fit settings }
 {
-    let tolerance = between(0, 1000000, settings.tolerance);
-    let levels = between(1, 6, settings.levels);
-    let rounds = between(0, 1000, settings.rounds);
-    all_three(tolerance, levels, rounds)
+    between(0, 1000000, settings.tolerance)
+        && between(1, 6, settings.levels)
+        && between(0, 1000, settings.rounds)
 }
 
-// Check 1 as a ruling.
-pub fn judge_sides(sides: Sides) -> Ruling
-    ensures { result ≡ ruling_by 1 (fault (not (sides_fit sides))) }
+// Check 1 and its fault.
+pub fn judge_sides(sides: Sides) -> Result<(), Fault>
+    ensures { result ≡ unless SideOutOfRange (sides_fit sides) }
 {
-    ruled(1, fault_unless(sides_fit(sides)))
+    if sides_fit(sides) {
+        Ok(())
+    } else {
+        Err(Fault::SideOutOfRange)
+    }
 }
 
-// Check 3 as a ruling.
-pub fn judge_settings(settings: Settings) -> Ruling
-    ensures { result ≡ ruling_by 3 (fault (not (settings_fit settings))) }
+// Check 3 and its fault.
+pub fn judge_settings(settings: Settings) -> Result<(), Fault>
+    ensures { result ≡ unless SettingOutOfRange (settings_fit settings) }
 {
-    ruled(3, fault_unless(settings_fit(settings)))
+    if settings_fit(settings) {
+        Ok(())
+    } else {
+        Err(Fault::SettingOutOfRange)
+    }
 }
 
 // Whether the label at a place is above 2.
+#[tactic(auto, using(crate::proofs::CheckLaws::label_cell))]
 fn bad_label_at(labels: &[u8], c: usize) -> bool
     requires { c < length labels.now }
     ensures { result ≡ bad_label_at labels.now c }
@@ -67,21 +69,15 @@ fn bad_label_at(labels: &[u8], c: usize) -> bool
 }
 
 // The first of n labels that is above 2.
-pub fn bad_label(labels: &[u8], n: usize) -> Found
+pub fn bad_label(labels: &[u8], n: usize) -> Option<u32>
     requires { (n ≤ 32768) × (n ≤ length labels.now) }
     ensures { result ≡ first (bad_label_at labels.now) n }
 {
-    let mut c = 0;
-    while c < n {
-        if bad_label_at(labels, c) {
-            return Found::At(c as u32);
-        }
-        c += 1;
-    }
-    Found::Nowhere
+    first_where(n, |c| bad_label_at(labels, c))
 }
 
 // The greatest size of a value beside a label.
+#[tactic(auto, unfolding(method::specs::Cast::widest))]
 fn widest_at(label: u8) -> u32
     ensures { result ≡ widest label }
 {
@@ -98,7 +94,7 @@ fn widest_at(label: u8) -> u32
 pub fn out_of_range(label: u8, v: i32) -> bool
     ensures { result ≡ ltb (widest label) (nat_abs v) }
 {
-    widest_at(label) < signed_numbers::size32(v)
+    widest_at(label) < v.unsigned_abs()
 }
 
 // Whether the value of cell c is out of its label's range.
@@ -106,32 +102,56 @@ fn bad_value_at(labels: &[u8], values: &[i32], c: usize) -> bool
     requires { (c < length labels.now) × (c < length values.now) }
     ensures { result ≡ bad_value_at labels.now values.now c }
 {
-    let label = labels[c];
-    let v = values[c];
-    out_of_range(label, v)
+    out_of_range(labels[c], values[c])
 }
 
 // The first of n cells whose value is out of its label's range.
-pub fn bad_value(labels: &[u8], values: &[i32], n: usize) -> Found
+pub fn bad_value(labels: &[u8], values: &[i32], n: usize) -> Option<u32>
     requires { (n ≤ 32768) × ((n ≤ length labels.now) × (n ≤ length values.now)) }
     ensures { result ≡ first (bad_value_at labels.now values.now) n }
 {
-    let mut c = 0;
-    while c < n {
-        if bad_value_at(labels, values, c) {
-            return Found::At(c as u32);
-        }
-        c += 1;
+    first_where(n, |c| bad_value_at(labels, values, c))
+}
+
+// Check 4 of n cells, and its fault.
+pub fn judge_labels(labels: &[u8], n: usize) -> Result<(), Fault>
+    requires { (n ≤ 32768) × (n ≤ length labels.now) }
+    ensures { result ≡ ruling_by BadLabel (first (bad_label_at labels.now) n) }
+{
+    match bad_label(labels, n) {
+        Some(cell) => Err(Fault::BadLabel(cell)),
+        None => Ok(()),
     }
-    Found::Nowhere
+}
+
+// Check 5 of n cells, and its fault.
+fn judge_values(labels: &[u8], values: &[i32], n: usize) -> Result<(), Fault>
+    requires { (n ≤ 32768) × ((n ≤ length labels.now) × (n ≤ length values.now)) }
+    ensures { result ≡ ruling_by BadValue (first (bad_value_at labels.now values.now) n) }
+{
+    match bad_value(labels, values, n) {
+        Some(cell) => Err(Fault::BadValue(cell)),
+        None => Ok(()),
+    }
 }
 
 // Checks 4 and 5 of n cells.
-pub fn judge_cells(labels: &[u8], values: &[i32], n: usize) -> Ruling
+pub fn judge_cells(labels: &[u8], values: &[i32], n: usize) -> Result<(), Fault>
     requires { (n ≤ 32768) × ((n ≤ length labels.now) × (n ≤ length values.now)) }
     ensures { result ≡ cell_ruling labels.now values.now n }
 {
-    let fourth = ruled(4, bad_label(labels, n));
-    let fifth = ruled(5, bad_value(labels, values, n));
-    earlier(fourth, fifth)
+    judge_labels(labels, n)?;
+    judge_values(labels, values, n)
+}
+
+// Check 6 and its fault: no cell is air.
+pub fn judge_air(sides: Sides, labels: &[u8]) -> Result<(), Fault>
+    requires { Fit sides }
+    ensures { result ≡ unless NoAir (ltb 0 (interior sides labels.now)) }
+{
+    if 0 < interior(labels, sides) {
+        Ok(())
+    } else {
+        Err(Fault::NoAir)
+    }
 }

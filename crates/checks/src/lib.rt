@@ -1,13 +1,5 @@
-// What is checked of a cast that is handed in as slices, and how checks in a row give one ruling: for the session and
-// for the solver.
+// What is checked of a cast that is handed in as slices, for the session and for the solver: each check says nothing or
+// the fault that it found, so that checks in a row give the first.
 #![tactic(auto)]
 
 pub mod cast;
-pub mod rule;
-
-// What checks say: number and place of the first that fails, or nothing against it.
-#[derive(Clone, Copy)]
-pub enum Ruling {
-    Refused(u32, u32),
-    Allowed,
-}

@@ -3,17 +3,14 @@
 use Prim.Native.Nat.{ℕ, zero, suc, ◌+◌, ◌-◌, ◌*◌, ◌≤◌, ◌<◌}
 use mathlib.Core.Path.{◌≡◌, refl, sym, ap, subst, ◌∙◌}
 use mathlib.Core.Logic.{⊎_elim}
-use mathlib.Core.Bool.{cond}
 use mathlib.Core.List.{List, ◌++◌}
 use native.Mathlib.Nat.{le_of_suc-le-suc, eq-or-lt_of_le}
 use native.Mathlib.Omega.{arith}
-use borrow.Author.Tests.{lt-ltb}
 use lib.Dec.{ltb}
-use lib.ListN.{length, get_or, set, take, drop, length-append, length-set}
+use lib.ListN.{length, set, take, drop, length-append, length-set}
 use lib.Seq.{take_at, drop_at, take-length, take-take, take-set-le, get_or-set_same}
 use lib.Ieee.{Float, nan}
 use Rattle.laws.specs.Binary64.{+0}
-use Rattle.laws.proofs.Lists.{get_or_tab}
 use Rattle.laws.proofs.Fill.{part_take}
 use Rattle.method.specs.declared.Sides.{Sides}
 use Rattle.method.specs.Cast.{cells}
@@ -22,15 +19,13 @@ use Rattle.theory.specs.Levels.{sides_at, labels_at, air_before}
 use Rattle.theory.specs.Sides.{Fit}
 use Rattle.theory.proofs.Sides.{fits}
 use Rattle.theory.proofs.Sizes.{cells_of_six}
-use Rattle.levels.specs.declared.sides.Levels.{Levels}
-use Rattle.bands.specs.declared.lists.Lists.{Lists}
 use Rattle.levels.specs.Rooms.{written}
-use Rattle.levels.specs.Levels.{base}
+use Rattle.levels.specs.Levels.{base, Levels}
 use Rattle.bands.specs.Lists.{list_of, left_of}
 use Rattle.levels.specs.AllLabels.{LabelsAsked, all_labels}
-use Rattle.bands.specs.AllLists.{base_labels, list_at, air_at, lists_before, firsts, lists_to, AllListed, ListsAsked}
+use Rattle.bands.specs.AllLists.{base_labels, list_at, air_at, lists_before, AllListed, ListsAsked, Lists, row_in}
 use Rattle.levels.proofs.Calls.{part_left}
-use Rattle.bands.proofs.Calls.{lists_asked}
+use Rattle.bands.proofs.Calls.{lists_asked, row_start, row_swept, row_air}
 use Rattle.levels.proofs.Labelled.{room_enough}
 use Rattle.smooth.specs.Fields.{u_of, b_of}
 use Rattle.cycle.specs.Strokes.{AirList, Ended, Put}
@@ -78,27 +73,9 @@ module _ (g : Sides) (ls : List ℕ) (count : ℕ) where
       (λ l. part_left (before m) (here m) (length (before k)) (length (here k)) (lists_inside m k l) ∙ list_part m k l)
       (eq-or-lt_of_le (le_of_suc-le-suc h))
 
--- ---- the table of starts and lengths
-first_at : (f : ℕ → ℕ) (count k : ℕ) → count ≤ 6 → k < count → get_or (firsts f count) k 0 ≡ f k
-unfolding firsts
-first_at f count k six h =
-    get_or_tab 6 (λ j. cond (ltb j count) (f j) 0) k 0 (omega arith) ∙ ap (λ b. cond b (f k) 0) (lt-ltb k count h)
-
 -- ---- THE ROOMS ARE PREPARED
 module _ (l : Levels) (count : ℕ) (bytes e words : List ℕ) (s : Lists) (a : ListsAsked l count bytes (length e)) (least : 1 ≤ count)
     (long : length words ≡ length e) (p : AllListed (base l) (base_labels l bytes) count e s words) where
-  start_at : (k : ℕ) → k < count → get_or s.start k 0 ≡ length (lists_before (base l) (base_labels l bytes) count k)
-  unfolding lists_to
-  start_at k h = ap (λ (t : Lists). get_or t.start k 0) p.lists ∙ first_at (λ j. length (lists_before (base l) (base_labels l bytes) count j)) count k a.most h
-
-  count_at : (k : ℕ) → k < count → get_or s.count k 0 ≡ length (list_at (base l) (base_labels l bytes) count k)
-  unfolding lists_to
-  count_at k h = ap (λ (t : Lists). get_or t.count k 0) p.lists ∙ first_at (λ j. length (list_at (base l) (base_labels l bytes) count j)) count k a.most h
-
-  air_at_lem : (k : ℕ) → k < count → get_or s.air k 0 ≡ length (air_at (base l) (base_labels l bytes) count k)
-  unfolding lists_to
-  air_at_lem k h = ap (λ (t : Lists). get_or t.air k 0) p.lists ∙ first_at (λ j. length (air_at (base l) (base_labels l bytes) count j)) count k a.most h
-
   words_are : words ≡ lists_before (base l) (base_labels l bytes) count count ++ drop (0 + length (lists_before (base l) (base_labels l bytes) count count)) e
   unfolding written
   words_are = p.room
@@ -110,17 +87,17 @@ module _ (l : Levels) (count : ℕ) (bytes e words : List ℕ) (s : Lists) (a : 
     length-append (lists_before (base l) (base_labels l bytes) count count) (drop (0 + length (lists_before (base l) (base_labels l bytes) count count)) e),
   )
 
-  air_part : (k : ℕ) → k < count → take (length (air_at (base l) (base_labels l bytes) count k)) (drop (get_or s.start k 0) words) ≡ air_at (base l) (base_labels l bytes) count k
+  air_part : (k : ℕ) → k < count → take (length (air_at (base l) (base_labels l bytes) count k)) (drop ((row_in s k).start) words) ≡ air_at (base l) (base_labels l bytes) count k
   air_part k h =
-      ap (λ b. take (length (air_at (base l) (base_labels l bytes) count k)) (drop b words)) (start_at k h)
+      ap (λ b. take (length (air_at (base l) (base_labels l bytes) count k)) (drop b words)) (row_start p k a.most h)
       ∙ ap (λ x. take (length (air_at (base l) (base_labels l bytes) count k)) (drop (length (lists_before (base l) (base_labels l bytes) count k)) x)) words_are
       ∙ part_left (lists_before (base l) (base_labels l bytes) count count) (drop (0 + length (lists_before (base l) (base_labels l bytes) count count)) e)
       (length (lists_before (base l) (base_labels l bytes) count k)) (length (air_at (base l) (base_labels l bytes) count k)) (lists_inside (base l) (base_labels l bytes) count count k h)
       ∙ list_part (base l) (base_labels l bytes) count count k h
 
-  swept_part : (k : ℕ) → k < count → take (length (list_at (base l) (base_labels l bytes) count k)) (drop (get_or s.start k 0) words) ≡ list_at (base l) (base_labels l bytes) count k
+  swept_part : (k : ℕ) → k < count → take (length (list_at (base l) (base_labels l bytes) count k)) (drop ((row_in s k).start) words) ≡ list_at (base l) (base_labels l bytes) count k
   swept_part k h =
-      sym (take-take (length (list_at (base l) (base_labels l bytes) count k)) (length (air_at (base l) (base_labels l bytes) count k)) (drop (get_or s.start k 0) words) (swept_within (base l) (base_labels l bytes) count k))
+      sym (take-take (length (list_at (base l) (base_labels l bytes) count k)) (length (air_at (base l) (base_labels l bytes) count k)) (drop ((row_in s k).start) words) (swept_within (base l) (base_labels l bytes) count k))
       ∙ ap (take (length (list_at (base l) (base_labels l bytes) count k))) (air_part k h) ∙ swept_first (base l) (base_labels l bytes) count k
 
   pub prepared : Prepared l s count bytes words
@@ -132,10 +109,10 @@ module _ (l : Levels) (count : ℕ) (bytes e words : List ℕ) (s : Lists) (a : 
     most = a.most;
     inside = room_enough (base l) (length bytes) count a.fit a.full a.most;
     labels = a.labels;
-    ends = λ k h. omega (arith, start_at k h, air_at_lem k h, lists_inside (base l) (base_labels l bytes) count count k h, words_long);
-    within = λ k h. omega (arith, count_at k h, air_at_lem k h, swept_within (base l) (base_labels l bytes) count k);
-    lists = λ k h. ap (λ n. take n (drop (get_or s.start k 0) words)) (count_at k h) ∙ swept_part k h;
-    air = λ k h. ap (λ n. take n (drop (get_or s.start k 0) words)) (air_at_lem k h) ∙ air_part k h;
+    ends = λ k h. omega (arith, row_start p k a.most h, row_air p k a.most h, lists_inside (base l) (base_labels l bytes) count count k h, words_long);
+    within = λ k h. omega (arith, row_swept p k a.most h, row_air p k a.most h, swept_within (base l) (base_labels l bytes) count k);
+    lists = λ k h. ap (λ n. take n (drop ((row_in s k).start) words)) (row_swept p k a.most h) ∙ swept_part k h;
+    air = λ k h. ap (λ n. take n (drop ((row_in s k).start) words)) (row_air p k a.most h) ∙ air_part k h;
   }
 
 -- the same from the labels as `all_labels` was given and left them

@@ -1,20 +1,19 @@
 -- One level's strokes: from the rooms that the kernels leave to the fields in them. Assumes nothing.
-use Prim.Native.Nat.{ℕ, suc, ◌+◌, ◌-◌, ◌*◌, ◌^◌, ◌/◌, ◌%◌, ◌≤◌, ◌<◌}
+use Prim.Native.Nat.{ℕ, ◌+◌, ◌-◌, ◌*◌, ◌^◌, ◌/◌, ◌%◌, ◌≤◌, ◌<◌}
 use mathlib.Core.Path.{◌≡◌, refl, sym, ap, ap₂, ◌∙◌}
 use mathlib.Core.Logic.{⊎_elim}
 use mathlib.Core.Bool.{Bool, true, false}
 use mathlib.Core.List.{List, [], ◌++◌, append_assoc, append-nil}
 use native.Mathlib.Omega.{arith}
 use native.Mathlib.Numerals.{add-one}
-use native.Mathlib.Nat.{two-pow-succ, pow-le-pow_right, eq-zero-or-pos}
+use native.Mathlib.Nat.{pow-succ', eq-zero-or-pos}
 use borrow.Author.Rules.{rules}
 use borrow.Author.Tests.{eq-eqb, ne_eqb, lt-ltb, le-ltb}
 use lib.Dec.{eqb, ltb}
+use lib.Pow.{shl_exact}
 use lib.ListN.{length, take, drop, length-append, length-drop, take-append-drop, drop_of_length-le}
 use lib.Seq.{take_all, take_at, drop_at, length-take-le, drop-drop, take-take, take-append-le, drop-append-le, get_or-drop}
 use borrow.Rule.Slice.PartMut.{mid_of, put_mid}
-use mir.Syntax.{w64}
-use mir.Val.{Fits}
 use lib.Ieee.{Float, nan}
 use Rattle.laws.specs.Binary64.{+0}
 use Rattle.laws.specs.Loops.{up}
@@ -144,27 +143,9 @@ level_again z k h = record {
 pub ruleset sweeping = (ups, forward_is, back_is, times_is, half_is, level_again)
 
 -- ---- how many sweeps
-pub record Doubled (i n : ℕ) : Type 0 where
-  pub is : n ≡ 2 ^ (i + 1)
-
-pub doubled_none : Doubled 0 2
-doubled_none = record { is = refl }
-
-pub doubled_more : (i n : ℕ) → Doubled i n → Doubled (i + 1) (n + n)
-doubled_more i n d =
-    let q : 2 ^ suc (i + 1) ≡ 2 ^ (i + 1) + 2 ^ (i + 1) = two-pow-succ (i + 1) in
-    record { is = rw (add-one (i + 1)) (cc d.is) }
-
-pub doubled_fits : (i n k : ℕ) → Doubled i n → i < k → k < 6 → Fits w64 (n + n)
-doubled_fits i n k d a b =
-    let q : 2 ^ (i + 1) ≤ 2 ^ 6 = pow-le-pow_right (omega arith) {i = i + 1} {j = 6} (omega arith) in
-    omega (arith, d.is)
-
-pub doubled_end : (i n k : ℕ) → Doubled i n → i ≤ k → k ≤ i → n ≡ sweeps k
+pub doubled : (k : ℕ) → k < 6 → 2 * 2 ^ k % 2 ^ 64 ≡ sweeps k
 unfolding sweeps
-doubled_end i n k d a b = let q : i ≡ k = omega arith in d.is ∙ ap (λ (j : ℕ). 2 ^ (j + 1)) q
-
-pub ruleset doubling = (rules, doubled_none, doubled_more, doubled_fits, doubled_end)
+doubled k h = shl_exact 2 k 64 (omega arith) (omega arith) ∙ sym (pow-succ' 2 k) ∙ ap (λ j. 2 ^ j) (sym (add-one k))
 
 -- ---- what a level leaves of its room
 module _ {n : ℕ} {u b t r e : List Float} where

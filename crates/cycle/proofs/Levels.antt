@@ -11,7 +11,7 @@ use borrow.Rule.Slice.PartMut.{mid_of, put_mid, same_len_mid}
 use mir.Syntax.{w64}
 use mir.Val.{Fits}
 use lib.Dec.{ltb}
-use lib.ListN.{length, get_or, take, drop, length-append, length-drop}
+use lib.ListN.{length, take, drop, length-append, length-drop}
 use lib.Seq.{drop_at, length-take-le, drop-drop, take-take, take-append-le}
 use lib.Ieee.{Float}
 use Rattle.laws.proofs.Lists.{length_tab}
@@ -28,11 +28,9 @@ use Rattle.theory.specs.Sides.{Fit}
 use Rattle.theory.proofs.Sizes.{fit_at}
 use Rattle.theory.proofs.Kept.{length_kept}
 use Rattle.grid.proofs.Steps.{cells_most}
-use Rattle.levels.specs.declared.sides.Levels.{Levels}
-use Rattle.bands.specs.declared.lists.Lists.{Lists}
-use Rattle.levels.specs.Levels.{base, start_in, sides_in}
+use Rattle.levels.specs.Levels.{base, start_in, sides_in, Levels}
 use Rattle.bands.specs.Lists.{smoothed, list_of, air_of}
-use Rattle.bands.specs.AllLists.{part_in, base_labels, list_at, air_at}
+use Rattle.bands.specs.AllLists.{part_in, base_labels, list_at, air_at, Lists, row_in}
 use Rattle.levels.proofs.Starts.{start_of, sides_of_lem}
 use Rattle.levels.proofs.Calls.{before_up_to}
 use Rattle.smooth.specs.Fields.{u_of, b_of, Level, Laid}
@@ -62,18 +60,18 @@ part_is l k m g bytes q p =
     ap (λ j. take j (drop (start_in l k) bytes)) r
 
 pub list_is : (s : Lists) (k : ℕ) (words : List ℕ)
-    → take (get_or s.start k 0 + get_or s.count k 0 - get_or s.start k 0) (drop (get_or s.start k 0) words) ≡ list_from s k words
+    → take ((row_in s k).start + (row_in s k).swept - (row_in s k).start) (drop ((row_in s k).start) words) ≡ list_from s k words
 unfolding list_from
 list_is s k words =
-    let r : get_or s.start k 0 + get_or s.count k 0 - get_or s.start k 0 ≡ get_or s.count k 0 = omega arith in
-    ap (λ j. take j (drop (get_or s.start k 0) words)) r
+    let r : (row_in s k).start + (row_in s k).swept - (row_in s k).start ≡ (row_in s k).swept = omega arith in
+    ap (λ j. take j (drop ((row_in s k).start) words)) r
 
 pub air_is : (s : Lists) (k : ℕ) (words : List ℕ)
-    → take (get_or s.start k 0 + get_or s.air k 0 - get_or s.start k 0) (drop (get_or s.start k 0) words) ≡ air_from s k words
+    → take ((row_in s k).start + (row_in s k).air - (row_in s k).start) (drop ((row_in s k).start) words) ≡ air_from s k words
 unfolding air_from
 air_is s k words =
-    let r : get_or s.start k 0 + get_or s.air k 0 - get_or s.start k 0 ≡ get_or s.air k 0 = omega arith in
-    ap (λ j. take j (drop (get_or s.start k 0) words)) r
+    let r : (row_in s k).start + (row_in s k).air - (row_in s k).start ≡ (row_in s k).air = omega arith in
+    ap (λ j. take j (drop ((row_in s k).start) words)) r
 
 pub ruleset parts = (rules, part_fit, part_end, part_fits, part_is, list_is, air_is)
 

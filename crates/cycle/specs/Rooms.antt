@@ -1,25 +1,23 @@
 -- All levels in the lent rooms: what a cycle asks of them, and what it promises.
-use Rattle.std.specs.Prelude.{ℕ, ◌+◌, ◌-◌, ◌*◌, ◌≤◌, ◌<◌, ◌≡◌, List, length, get_or, take, drop, Float}
+use Rattle.std.specs.Prelude.{ℕ, ◌+◌, ◌-◌, ◌*◌, ◌≤◌, ◌<◌, ◌≡◌, List, length, take, drop, Float}
 use Rattle.method.specs.declared.Sides.{Sides}
 use Rattle.method.specs.Cast.{cells}
 use Rattle.method.specs.Transfers.{restricted}
 use Rattle.method.specs.Cycle.{cycle, residue, corrected}
 use Rattle.theory.specs.Levels.{sides_at, labels_at, cells_before}
 use Rattle.theory.specs.Sides.{Fit}
-use Rattle.levels.specs.declared.sides.Levels.{Levels}
-use Rattle.bands.specs.declared.lists.Lists.{Lists}
-use Rattle.levels.specs.Levels.{levels_of, base, start_in, sides_in}
+use Rattle.levels.specs.Levels.{levels_of, base, start_in, sides_in, Levels}
 use Rattle.levels.specs.AllLabels.{LabelsIn}
-use Rattle.bands.specs.AllLists.{base_labels, list_at, air_at}
+use Rattle.bands.specs.AllLists.{base_labels, list_at, air_at, Lists, row_in}
 use Rattle.smooth.specs.Fields.{u_of, b_of}
 use Rattle.cycle.specs.Strokes.{Put}
 
 -- in the room of words what is swept of level k, and all its air
 unfoldable pub list_from : Lists → ℕ → List ℕ → List ℕ
-list_from s k words = take (get_or s.count k 0) (drop (get_or s.start k 0) words)
+list_from s k words = take ((row_in s k).swept) (drop ((row_in s k).start) words)
 
 unfoldable pub air_from : Lists → ℕ → List ℕ → List ℕ
-air_from s k words = take (get_or s.air k 0) (drop (get_or s.start k 0) words)
+air_from s k words = take ((row_in s k).air) (drop ((row_in s k).start) words)
 
 -- count levels, whose labels stand in the room of bytes and whose lists stand in the room of words
 pub record Prepared (l : Levels) (s : Lists) (count : ℕ) (bytes words : List ℕ) : Type 0 where
@@ -29,8 +27,8 @@ pub record Prepared (l : Levels) (s : Lists) (count : ℕ) (bytes words : List �
   pub most : count ≤ 6
   pub inside : cells_before (base l) count ≤ length bytes
   pub labels : LabelsIn (base l) (base_labels l bytes) count bytes
-  pub ends : (k : ℕ) → k < count → get_or s.start k 0 + get_or s.air k 0 ≤ length words
-  pub within : (k : ℕ) → k < count → get_or s.count k 0 ≤ get_or s.air k 0
+  pub ends : (k : ℕ) → k < count → (row_in s k).start + (row_in s k).air ≤ length words
+  pub within : (k : ℕ) → k < count → (row_in s k).swept ≤ (row_in s k).air
   pub lists : (k : ℕ) → k < count → list_from s k words ≡ list_at (base l) (base_labels l bytes) count k
   pub air : (k : ℕ) → k < count → air_from s k words ≡ air_at (base l) (base_labels l bytes) count k
 
@@ -81,8 +79,8 @@ pub record LabelsAt (l : Levels) (k n : ℕ) : Type 0 where
 
 pub record ListAt (s : Lists) (k n : ℕ) : Type 0 where
   pub below : k < 6
-  pub inside : get_or s.start k 0 + get_or s.count k 0 ≤ n
+  pub inside : (row_in s k).start + (row_in s k).swept ≤ n
 
 pub record AirAt (s : Lists) (k n : ℕ) : Type 0 where
   pub below : k < 6
-  pub inside : get_or s.start k 0 + get_or s.air k 0 ≤ n
+  pub inside : (row_in s k).start + (row_in s k).air ≤ n

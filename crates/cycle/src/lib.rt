@@ -20,6 +20,7 @@ ghost use Rattle.cycle.specs.Rooms.{list_from, air_from, fields_from, Ready, Cyc
 use bands::lists::Lists;
 use levels::sides::Levels;
 use method::Sides;
+use smooth::Lattice;
 
 // The last element of a room becomes the zero that entries read where there is no air.
 pub fn end_in_zero(room: &mut [f64])
@@ -37,14 +38,11 @@ fn sweep(room: &mut [f64], labels: &[u8], list: &[u32], g: Sides, forward: bool)
     ensures room_after { value room.new (length room.new - 1) ≡ +0 }
     ensures room_after_2 { room.new ≡ sweep_turn forward g labels.now (cells_of list.now) room.old }
 {
-    let n = labels.len();
-    let nx = g.nx as usize;
-    let plane = nx * (g.ny as usize);
-    let zero = room.len() - 1;
+    let lattice = Lattice::of(g, labels.len(), room.len());
     if forward {
-        smooth::entries::sweep_up(room, list, n, nx, plane, zero);
+        smooth::entries::sweep_up(room, list, lattice);
     } else {
-        smooth::entries::sweep_down(room, list, n, nx, plane, zero);
+        smooth::entries::sweep_down(room, list, lattice);
     }
 }
 
@@ -53,10 +51,8 @@ fn sweep_times(room: &mut [f64], labels: &[u8], list: &[u32], g: Sides, forward:
     requires { EntryLevel g labels.now list.now room.old }
     ensures { room.new ≡ swept_room count forward g labels.now (cells_of list.now) room.old }
 {
-    let mut i = 0;
-    while i < count {
+    for _ in 0..count {
         sweep(room, labels, list, g, forward);
-        i += 1;
     }
 }
 
@@ -65,13 +61,7 @@ fn sweep_count(k: usize) -> usize
     requires { k < 6 }
     ensures { result ≡ sweeps k }
 {
-    let mut n = 2;
-    let mut i = 0;
-    while i < k {
-        n = n + n;
-        i += 1;
-    }
-    n
+    2 << k
 }
 
 // Sweep i of the coarsest level's sixteen, in halves of eight: the first ascends, the second descends.
@@ -92,10 +82,8 @@ fn coarsest(room: &mut [f64], labels: &[u8], list: &[u32], g: Sides)
     requires room_value { u_of (cells g) room.old ≡ zeros g }
     ensures { Put (cells g) (3 * cells g) (coarsest g labels.now (b_of (cells g) room.old)) room.old room.new }
 {
-    let mut i = 0;
-    while i < 16 {
+    for i in 0..16 {
         coarsest_sweep(room, labels, list, g, i);
-        i += 1;
     }
 }
 
@@ -117,11 +105,8 @@ fn jacobi(room: &mut [f64], labels: &[u8], air: &[u32], g: Sides)
     requires quiet { Quiet g labels.now (u_of (cells g) room.old) }
     ensures { room.new ≡ jacobi g labels.now (b_of (cells g) room.old) (u_of (cells g) room.old) ++ (b_of (cells g) room.old ++ (u_of (cells g) room.old ++ drop (3 * cells g) room.old)) }
 {
-    let n = labels.len();
-    let nx = g.nx as usize;
-    let plane = nx * (g.ny as usize);
-    let zero = room.len() - 1;
-    smooth::stencils::jacobi(room, air, n, nx, plane, zero);
+    let lattice = Lattice::of(g, labels.len(), room.len());
+    smooth::stencils::jacobi(room, air, lattice);
 }
 
 // b - A u into t, over all air.
@@ -131,11 +116,8 @@ fn residual(room: &mut [f64], labels: &[u8], air: &[u32], g: Sides)
     requires air_list { AirList g labels.now air.now }
     ensures { room.new ≡ u_of (cells g) room.old ++ (b_of (cells g) room.old ++ (residue g labels.now (b_of (cells g) room.old) (u_of (cells g) room.old) ++ drop (3 * cells g) room.old)) }
 {
-    let n = labels.len();
-    let nx = g.nx as usize;
-    let plane = nx * (g.ny as usize);
-    let zero = room.len() - 1;
-    smooth::stencils::residual(room, air, n, nx, plane, zero);
+    let lattice = Lattice::of(g, labels.len(), room.len());
+    smooth::stencils::residual(room, air, lattice);
 }
 
 // A level's first half, from u = 0: one Jacobi, then ascending sweeps of the band.
@@ -183,8 +165,8 @@ fn level_labels(bytes: &[u8], l: Levels, k: usize) -> &[u8]
     requires { LabelsAt l k (length bytes.now) }
     ensures { result.now ≡ part_in l k bytes.now }
 {
-    let from = l.start[k];
-    let to = from + grid::place::cell_count(levels::sides::sides_at(l, k));
+    let from = l[k].start;
+    let to = from + grid::place::cell_count(l[k].sides);
     &bytes[from..to]
 }
 
@@ -193,8 +175,8 @@ fn level_list(words: &[u32], s: Lists, k: usize) -> &[u32]
     requires { ListAt s k (length words.now) }
     ensures { result.now ≡ list_from s k words.now }
 {
-    let from = s.start[k];
-    let to = from + s.count[k];
+    let from = s[k].start;
+    let to = from + s[k].swept;
     &words[from..to]
 }
 
@@ -203,8 +185,8 @@ pub fn level_air(words: &[u32], s: Lists, k: usize) -> &[u32]
     requires { AirAt s k (length words.now) }
     ensures { result.now ≡ air_from s k words.now }
 {
-    let from = s.start[k];
-    let to = from + s.air[k];
+    let from = s[k].start;
+    let to = from + s[k].air;
     &words[from..to]
 }
 

@@ -22,7 +22,6 @@ use Rattle.method.specs.Cast.{Axis, cells, axes, label_at, is_air, is_opening, b
 use Rattle.method.specs.Rooms as answers
 use Rattle.theory.specs.Sides.{x_axis, y_axis, z_axis}
 use Rattle.theory.proofs.Counting.{count_le}
-use Rattle.theory.proofs.Firsts.{none_none, none_more, none_end, hit}
 use Rattle.rooms.proofs.Clears.{zeroed_is}
 use Rattle.grid.proofs.Steps.{air_yes, air_no, plane_pos, plane_most, plane_fits, cells_most}
 use Rattle.distances.specs.Search.{Queue, queue, mark, entry, reach, reach_all, sideways, turn, start, cleared, started, searched, deeper, lost, Safe, Moved, Reaches, Held, Roomy}
@@ -242,6 +241,3 @@ module _ (ls room : List ℕ) (c : ℕ) (l : c < length ls) where
   lost_not e = sym (ap (λ b. b && eqb (get_or room c 0) 0) (air_no ls c l e))
 
 pub ruleset marks = (rules, deeper_more, deeper_less, deeper_none, deeper_not, lost_air, lost_not)
-
--- the first cell at which a test passes, where it passed at none before
-pub ruleset firsts = (rules, none_none, none_more, none_end, hit)

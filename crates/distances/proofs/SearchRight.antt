@@ -18,20 +18,19 @@ use Rattle.laws.specs.Loops.{up}
 use Rattle.laws.specs.Lists.{over}
 use Rattle.laws.proofs.Bools.{split, is_true, is_false}
 use Rattle.laws.proofs.Naturals.{le_or_lt}
-use Rattle.method.specs.declared.Found.{Found}
-use Rattle.method.specs.declared.Found.TheVariants.{Nowhere, At}
+use Rattle.std.specs.Prelude.{Option, None, Some}
 use Rattle.theory.proofs.Reach.{found_cases, same_steps, never}
 use Rattle.distances.specs.Search.{Queue, queue, mark, entry, put, reach, reach_all, turn, start, cleared, started, mark_of, Safe}
 use Rattle.distances.proofs.SearchSafe.{Put, put_is, put_safe, place, reach_put, reach_keep}
 use Rattle.distances.proofs.SearchCode.{cleared_zero, cleared_safe}
 
 -- what the search needs of the distances δ to the openings
-pub record Distances (n : ℕ) (air opening : ℕ → Bool) (near : ℕ → List ℕ) (δ : ℕ → Found) : Type 0 where
-  pub at_opening : (c : ℕ) → c < n → T (opening c) → δ c ≡ At 0
-  pub opening_at : (c : ℕ) → δ c ≡ At 0 → T (opening c)
-  pub before : (c d : ℕ) → δ c ≡ At (suc d) → T (air c) × ((j : ℕ) × Memᴰ j (near c) × (δ j ≡ At d))
-  pub after : (c j d : ℕ) → T (air c) → Memᴰ j (near c) → δ j ≡ At d → (e : ℕ) × (e ≤ suc d) × (δ c ≡ At e)
-  pub cell : (c d : ℕ) → δ c ≡ At d → c < n
+pub record Distances (n : ℕ) (air opening : ℕ → Bool) (near : ℕ → List ℕ) (δ : ℕ → Option ℕ) : Type 0 where
+  pub at_opening : (c : ℕ) → c < n → T (opening c) → δ c ≡ Some 0
+  pub opening_at : (c : ℕ) → δ c ≡ Some 0 → T (opening c)
+  pub before : (c d : ℕ) → δ c ≡ Some (suc d) → T (air c) × ((j : ℕ) × Memᴰ j (near c) × (δ j ≡ Some d))
+  pub after : (c j d : ℕ) → T (air c) → Memᴰ j (near c) → δ j ≡ Some d → (e : ℕ) × (e ≤ suc d) × (δ c ≡ Some e)
+  pub cell : (c d : ℕ) → δ c ≡ Some d → c < n
   pub air_cell : (c : ℕ) → T (air c) → c < n
   pub both : (i j : ℕ) → i < n → j < n → Memᴰ j (near i) → Memᴰ i (near j)
 
@@ -64,7 +63,7 @@ later_put n v j q p u z = record {
   rest = u.rest_is;
 }
 
-module _ (n : ℕ) (air opening : ℕ → Bool) (near : ℕ → List ℕ) (δ : ℕ → Found) (D : Distances n air opening near δ) where
+module _ (n : ℕ) (air opening : ℕ → Bool) (near : ℕ → List ℕ) (δ : ℕ → Option ℕ) (D : Distances n air opening near δ) where
   -- the queue with the cells before h done
   pub record Good (h : ℕ) (q : Queue) : Type 0 where
     pub safe : Safe n q
@@ -73,13 +72,13 @@ module _ (n : ℕ) (air opening : ℕ → Bool) (near : ℕ → List ℕ) (δ : 
     pub sorted : (k l : ℕ) → k ≤ l → l < q.tail → mark q (entry n q k) ≤ mark q (entry n q l)
     pub close : h < q.tail → (k : ℕ) → k < q.tail → mark q (entry n q k) ≤ suc (mark q (entry n q h))
     pub done : (k j : ℕ) → k < h → k < q.tail → Memᴰ j (near (entry n q k)) → T (air j) → 1 ≤ mark q j
-    pub right : (c d : ℕ) → c < n → mark q c ≡ suc d → δ c ≡ At d
+    pub right : (c d : ℕ) → c < n → mark q c ≡ suc d → δ c ≡ Some d
 
   pub Opened : Queue → Type 0
   Opened q = (c : ℕ) → c < n → T (opening c) → 1 ≤ mark q c
 
   -- ---- a cell enters the queue
-  module _ (h m j : ℕ) (q p : Queue) (g : Good h q) (s : Safe n p) (u : Put n (m + 1) j q p) (l : j < n) (z : mark q j ≡ 0) (dj : δ j ≡ At m) (hl : h ≤ q.tail)
+  module _ (h m j : ℕ) (q p : Queue) (g : Good h q) (s : Safe n p) (u : Put n (m + 1) j q p) (l : j < n) (z : mark q j ≡ 0) (dj : δ j ≡ Some m) (hl : h ≤ q.tail)
       (top : (k : ℕ) → k < q.tail → mark q (entry n q k) ≤ suc m) (low : h < q.tail → m ≤ mark q (entry n q h)) where
     old : (k : ℕ) → k < q.tail → mark p (entry n p k) ≡ mark q (entry n q k)
     old k b = ap (mark p) (u.entry_else k b) ∙ u.mark_else (entry n q k) (g.safe.inside k b) (λ e. omega (arith, g.marked k b, ap (mark q) e))
@@ -114,17 +113,17 @@ module _ (n : ℕ) (air opening : ℕ → Bool) (near : ℕ → List ℕ) (δ : 
         queued_at c lc b (yes e) = (q.tail, omega (arith, u.tail_is), u.entry_here ∙ sym e)
         queued_at c lc b (no e) = let r = g.queued c lc (omega (arith, u.mark_else c lc e)) in (r.0, omega (arith, u.tail_is, r.1), u.entry_else r.0 r.1 ∙ r.2)
 
-        right_at : (c d : ℕ) → c < n → mark p c ≡ suc d → Dec (c ≡ j) → δ c ≡ At d
-        right_at c d lc e (yes f) = ap δ f ∙ dj ∙ ap At (omega (arith, ap (mark p) f, u.mark_here))
+        right_at : (c d : ℕ) → c < n → mark p c ≡ suc d → Dec (c ≡ j) → δ c ≡ Some d
+        right_at c d lc e (yes f) = ap δ f ∙ dj ∙ ap Some (omega (arith, ap (mark p) f, u.mark_here))
         right_at c d lc e (no f) = g.right c d lc (sym (u.mark_else c lc f) ∙ e)
 
   -- ---- what is nearer than a bound is marked, where all with a mark below the bound are done
-  reached : (h b : ℕ) (q : Queue) → Good h q → Opened q → ((k : ℕ) → k < q.tail → mark q (entry n q k) < b → k < h) → (e x : ℕ) → e < b → δ x ≡ At e → 1 ≤ mark q x
+  reached : (h b : ℕ) (q : Queue) → Good h q → Opened q → ((k : ℕ) → k < q.tail → mark q (entry n q k) < b → k < h) → (e x : ℕ) → e < b → δ x ≡ Some e → 1 ≤ mark q x
   unfolding Opened
   reached h b q g o f zero x l d = o x (D.cell x 0 d) (D.opening_at x d)
   reached h b q g o f (suc e) x l d = from (D.before x e d) (λ j dj. reached h b q g o f e j (omega arith) dj)
     where
-      from : T (air x) × ((j : ℕ) × Memᴰ j (near x) × (δ j ≡ At e)) → ((j : ℕ) → δ j ≡ At e → 1 ≤ mark q j) → 1 ≤ mark q x
+      from : T (air x) × ((j : ℕ) × Memᴰ j (near x) × (δ j ≡ Some e)) → ((j : ℕ) → δ j ≡ Some e → 1 ≤ mark q j) → 1 ≤ mark q x
       from r rec =
           let j = r.1.0 in
           let dj = r.1.2 in
@@ -152,14 +151,14 @@ module _ (n : ℕ) (air opening : ℕ → Bool) (near : ℕ → List ℕ) (δ : 
     head_marked : (q : Queue) → Head q → 1 ≤ mark q c
     head_marked q t = subst (λ x. 1 ≤ mark q x) t.is_c (t.good.marked h t.waits)
 
-    further : (q : Queue) → Head q → (j : ℕ) → Memᴰ j (near c) → T (air j) → mark q j ≡ 0 → δ j ≡ At m
+    further : (q : Queue) → Head q → (j : ℕ) → Memᴰ j (near c) → T (air j) → mark q j ≡ 0 → δ j ≡ Some m
     further q t j mem a z =
         let lc = head_cell q t in
         let lj = D.air_cell j a in
         let w : mark q c ≡ suc (m - 1) = omega (arith, t.is_m, head_marked q t) in
         let r = D.after j c (m - 1) a (D.both c j lc lj mem) (t.good.right c (m - 1) lc w) in
         ⊎_elim
-        (λ b. r.2 ∙ ap At (omega (arith, b, r.1, t.is_m, head_marked q t)))
+        (λ b. r.2 ∙ ap Some (omega (arith, b, r.1, t.is_m, head_marked q t)))
         (λ b. absurd (omega (arith, z, reached h m q t.good t.opened ahead r.0 j b r.2)))
         (le_or_lt m r.0)
       where
@@ -396,14 +395,14 @@ module _ (n : ℕ) (air opening : ℕ → Bool) (near : ℕ → List ℕ) (δ : 
         t : Turned n (queue (up cleared n room) 0) end
         t = whole
 
-        known : (mark end c ≡ 0 → ⊥) → δ c ≡ At (mark end c - 1)
+        known : (mark end c ≡ 0 → ⊥) → δ c ≡ Some (mark end c - 1)
         known z = t.good.right c (mark end c - 1) l (omega (arith, z))
 
-        at : (d : ℕ) → δ c ≡ At d → Dec (mark end c ≡ 0) → mark end c ≡ mark_of (δ c)
+        at : (d : ℕ) → δ c ≡ Some d → Dec (mark end c ≡ 0) → mark end c ≡ mark_of (δ c)
         at d e (yes z) = absurd (omega (arith, z, reached n (suc d) end t.good t.opened (λ k b x. omega (arith, t.good.safe.free)) d c (omega arith) e))
         at d e (no z) = omega (arith, same_steps (known z) e, z) ∙ ap mark_of (sym e)
 
-        nowhere : δ c ≡ Nowhere → Dec (mark end c ≡ 0) → mark end c ≡ mark_of (δ c)
+        nowhere : δ c ≡ None → Dec (mark end c ≡ 0) → mark end c ≡ mark_of (δ c)
         nowhere e (yes z) = z ∙ ap mark_of (sym e)
         nowhere e (no z) = absurd (never e (known z))
 

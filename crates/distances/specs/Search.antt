@@ -1,10 +1,8 @@
 -- The search for distances, as a program on lists: a room of marks and a queue, from the openings outwards.
-use Rattle.std.specs.Prelude.{ℕ, suc, ◌+◌, ◌-◌, ◌<◌, ◌≤◌, max, ◌≡◌, Bool, cond, ◌&&◌, List, [], ◌∷◌, ltb, eqb, length, get_or, set}
+use Rattle.std.specs.Prelude.{ℕ, suc, Option, None, Some, ◌+◌, ◌-◌, ◌<◌, ◌≤◌, max, ◌≡◌, Bool, cond, ◌&&◌, List, [], ◌∷◌, ltb, eqb, length, get_or, set}
 use Rattle.laws.specs.Loops.{up}
 use Rattle.laws.specs.Lists.{over}
 use Rattle.method.specs.declared.Sides.{Sides}
-use Rattle.method.specs.declared.Found.{Found}
-use Rattle.method.specs.declared.Found.TheVariants.{Nowhere, At}
 use Rattle.method.specs.Cast.{Axis, cells, is_air, is_opening, back, on, around}
 use Rattle.method.specs.Walks.{depth, sealed}
 use Rattle.distances.specs.declared.Walked.{Walked}
@@ -59,9 +57,9 @@ unfoldable pub searched : Sides → List ℕ → List ℕ → Queue
 searched s ls room = up (turn (cells s) (is_air ls) (around s)) (cells s) (started (cells s) (is_opening ls) room)
 
 -- the mark of a distance
-unfoldable pub mark_of : Found → ℕ
-mark_of Nowhere = 0
-mark_of (At d) = suc d
+unfoldable pub mark_of : Option ℕ → ℕ
+mark_of None = 0
+mark_of (Some d) = suc d
 
 -- ---- what the marks give
 unfoldable pub deeper : List ℕ → List ℕ → ℕ → ℕ → ℕ

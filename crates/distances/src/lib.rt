@@ -9,6 +9,8 @@ ghost use Rattle.method.specs.Cast.{cells, is_air, is_opening, around, first};
 ghost use Rattle.distances.specs.Search.{queue, reach, reach_all, sideways, turn, start, searched, deeper, lost, Safe, Moved, Reaches, Held, Roomy, Measured};
 
 use grid::near::{step_back, step_on};
+use rooms::clear_front;
+use search::first_where;
 
 // What the walks of a cast come to.
 #[derive(Clone, Copy)]
@@ -16,7 +18,7 @@ pub struct Walked {
     // the greatest distance of an air cell
     pub depth: u32,
     // the first air cell with no walk to an opening
-    pub sealed: method::Found,
+    pub sealed: Option<u32>,
 }
 
 // Cell j, reached from a mark m, enters the queue where it has no mark yet. The number of cells in the queue.
@@ -98,10 +100,8 @@ fn flood(room: &mut [u32], labels: &[u8], g: method::Sides, started: usize) -> u
     ensures { queue room.new result ≡ up (turn (cells g) (is_air labels.now) (around g)) (cells g) (queue room.old started) }
 {
     let mut tail = started;
-    let mut head = 0;
-    while head < labels.len() {
+    for head in 0..labels.len() {
         tail = take_turn(room, labels, g, head, tail);
-        head += 1;
     }
     tail
 }
@@ -123,10 +123,8 @@ fn start_all(room: &mut [u32], labels: &[u8]) -> usize
     ensures { Moved (length labels.now) (queue room.old 0) (up (start (length labels.now) (is_opening labels.now)) (length labels.now) (queue room.old 0)) (queue room.new result) }
 {
     let mut tail = 0;
-    let mut i = 0;
-    while i < labels.len() {
+    for i in 0..labels.len() {
         tail = start_at(room, labels, i, tail);
-        i += 1;
     }
     tail
 }
@@ -136,7 +134,7 @@ fn search(room: &mut [u32], labels: &[u8], g: method::Sides)
     requires { Roomy g labels.now room.old }
     ensures { room.new ≡ (searched g labels.now room.old).room }
 {
-    rooms::clear_words(room, labels.len());
+    clear_front(room, labels.len(), 0);
     let tail = start_all(room, labels);
     flood(room, labels, g, tail);
 }
@@ -163,10 +161,8 @@ fn deepest(room: &[u32], labels: &[u8]) -> u32
     ensures { result ≡ up (deeper labels.now room.now) (length labels.now) 0 }
 {
     let mut d = 0;
-    let mut i = 0;
-    while i < labels.len() {
+    for i in 0..labels.len() {
         d = deeper_at(room, labels, i, d);
-        i += 1;
     }
     d
 }
@@ -176,22 +172,15 @@ fn is_lost(room: &[u32], labels: &[u8], i: usize) -> bool
     requires { (i < length labels.now) × (i < length room.now) }
     ensures { result ≡ lost labels.now room.now i }
 {
-    if labels[i] == 0 { room[i] == 0 } else { false }
+    labels[i] == 0 && room[i] == 0
 }
 
 // The first air cell with no mark.
-fn first_lost(room: &[u32], labels: &[u8]) -> method::Found
+fn first_lost(room: &[u32], labels: &[u8]) -> Option<u32>
     requires { (length labels.now ≤ length room.now) × (length labels.now ≤ 32768) }
     ensures { result ≡ first (lost labels.now room.now) (length labels.now) }
 {
-    let mut c = 0;
-    while c < labels.len() {
-        if is_lost(room, labels, c) {
-            return method::Found::At(c as u32);
-        }
-        c += 1;
-    }
-    method::Found::Nowhere
+    first_where(labels.len(), |c| is_lost(room, labels, c))
 }
 
 // The search, and what it finds. The room keeps the marks: `searched`.

@@ -21,10 +21,8 @@ pub fn interior(labels: &[u8], g: method::Sides) -> u32
 {
     let n = crate::place::cell_count(g);
     let mut k = 0;
-    let mut c = 0;
-    while c < n {
+    for c in 0..n {
         k = count_at(labels, c, k);
-        c += 1;
     }
     k
 }

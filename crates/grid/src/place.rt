@@ -54,23 +54,10 @@ pub fn place(g: method::Sides, n: usize, a: usize, b: usize, e: usize) -> usize
     let nx = g.nx as usize;
     let ny = g.ny as usize;
     let nz = g.nz as usize;
-    if a < 1 {
-        return n;
+    let inside = 0 < a && a <= nx && 0 < b && b <= ny && 0 < e && e <= nz;
+    if inside {
+        number_of(g, a - 1, b - 1, e - 1)
+    } else {
+        n
     }
-    if nx < a {
-        return n;
-    }
-    if b < 1 {
-        return n;
-    }
-    if ny < b {
-        return n;
-    }
-    if e < 1 {
-        return n;
-    }
-    if nz < e {
-        return n;
-    }
-    number_of(g, a - 1, b - 1, e - 1)
 }

@@ -15,15 +15,14 @@ use Rattle.method.specs.Rooms.{byte_need}
 use Rattle.theory.specs.Levels.{sides_at, labels_at, cells_before}
 use Rattle.theory.specs.Sides.{Fit}
 use Rattle.theory.proofs.Kept.{length_kept}
-use Rattle.levels.specs.declared.sides.Levels.{Levels}
 use Rattle.levels.specs.Rooms.{written}
-use Rattle.levels.specs.Levels.{levels_of, base}
+use Rattle.levels.specs.Levels.{Levels, level_at, levels_of, base}
 use Rattle.levels.specs.AllLabels.{all_labels, LabelsIn, LabelsAsked}
 use Rattle.levels.proofs.Labelled.{all_long}
 
 -- ---- the levels of a box know the box
 pub base_of : (g : Sides) → base (levels_of g) ≡ g
-unfolding base levels_of tab sides_at
+unfolding base levels_of level_at tab sides_at
 base_of g = refl
 
 module _ (g : Sides) (l : Levels) (e : l ≡ levels_of g) where

@@ -2,12 +2,11 @@
 -- Assumes nothing.
 use Prim.Native.Nat.{ℕ, zero, suc, ◌+◌, ◌-◌, ◌≤◌, ◌<◌}
 use mathlib.Core.Path.{◌≡◌, refl, sym, ap, ap₂, ◌∙◌}
-use mathlib.Core.List.{List}
-use native.Mathlib.Numerals.{add-one}
+use mathlib.Core.List.{List, ◌++◌}
 use native.Mathlib.Omega.{arith}
 use borrow.Author.Rules.{rules}
 use lib.ListN.{length, take, drop, set, get_or, length-append, length-set}
-use lib.Seq.{length-take-le, take-suc, take_all}
+use lib.Seq.{get_or-take, length-take-le}
 use Rattle.laws.specs.Loops.{up}
 use Rattle.laws.specs.Lists.{tab}
 use Rattle.laws.proofs.Loops.{Up, up_none, up_more, up_end}
@@ -21,10 +20,10 @@ use Rattle.theory.specs.Sides.{Fit}
 use Rattle.theory.proofs.Sides.{fits}
 use Rattle.theory.proofs.Sizes.{halved_fit, fit_at, cells_of_six}
 use Rattle.theory.proofs.Kept.{length_kept}
-use Rattle.levels.specs.declared.sides.Levels.{Levels}
 use Rattle.levels.specs.Rooms.{written}
-use Rattle.levels.specs.Levels.{levels_of, base, start_in, sides_in}
-use Rattle.levels.specs.AllLabels.{all_labels, coarsen_step, coarsened, next_step, CoarseAsked, NextAsked, LabelsAsked}
+use Rattle.levels.specs.declared.sides.Level.{Level}
+use Rattle.levels.specs.Levels.{Levels, level_at, levels_of, base, no_level, start_in, sides_in}
+use Rattle.levels.specs.AllLabels.{all_labels, coarsen_step, coarsened, next_step, CoarseAsked, LabelsAsked}
 use Rattle.levels.proofs.Starts.{start_of, sides_of_lem}
 use Rattle.levels.proofs.Rooms.{tab_last, written_none, length_written, written_on, written_more, part_before, part_last}
 
@@ -76,41 +75,9 @@ pub next_fit : (g h : Sides) → Fit g → h ≡ halved g → Fit h
 next_fit g h z e = rw e (halved_fit g z)
 
 -- ---- level 0
-pub record Copied (e ls : List ℕ) (i : ℕ) (s : List ℕ) : Type 0 where
-  pub is : s ≡ written e 0 (take i ls)
-
-module _ (e ls : List ℕ) where
-  pub copied_none : Copied e ls 0 e
-  copied_none = record { is = written_none e 0 }
-
-  pub copied_long : (i : ℕ) (s : List ℕ) → length ls ≤ length e → i ≤ length ls → Copied e ls i s → length s ≡ length e
-  copied_long i s h l c = ap length c.is ∙ length_written e 0 (take i ls) (omega (arith, length-take-le i ls l))
-
-  pub copied_room : (i : ℕ) (s : List ℕ) → length ls ≤ length e → i < length ls → Copied e ls i s → i < length s
-  copied_room i s h l c = omega (arith, copied_long i s h (omega arith) c)
-
-  pub copied_more : (i : ℕ) (s : List ℕ) → length ls ≤ length e → i < length ls → Copied e ls i s → Copied e ls (i + 1) (set s i (get_or ls i 0))
-  copied_more i s h l c =
-      let q : i ≡ 0 + length (take i ls) = omega (arith, length-take-le i ls (omega arith)) in
-      let p : set s i (get_or ls i 0) ≡ written e 0 (take (suc i) ls) =
-      ap (λ x. set x i (get_or ls i 0)) c.is ∙ ap (λ k. set (written e 0 (take i ls)) k (get_or ls i 0)) q
-      ∙ written_more e 0 (take i ls) (get_or ls i 0) (omega arith) ∙ ap (written e 0) (sym (take-suc ls i 0 l)) in
-      record { is = rw add-one p }
-
-  pub copied_end : (i : ℕ) (s : List ℕ) → length ls ≤ i → Copied e ls i s → s ≡ written e 0 ls
-  copied_end i s h c = c.is ∙ ap (written e 0) (take_all i ls h)
-
--- ---- the levels after it
-module _ (l : Levels) (k : ℕ) (g : Sides) (e : g ≡ sides_in l k) where
-  pub next_sides : (n : ℕ) → NextAsked l k n → Fit g
-  next_sides n a = rw e a.fit
-
-  pub next_room : (n : ℕ) → NextAsked l k n → start_in l k + cells g + cells (halved g) ≤ n
-  next_room n a = rw e a.room
-
-  pub next_is : (s r : List ℕ) → r ≡ coarsened g (start_in l k) s → r ≡ next_step l k s
-  unfolding next_step
-  next_is s r h = rw (← e) h
+pub copied : (f : ℕ → List ℕ → List ℕ) (e ls s : List ℕ) → s ≡ ls → Up f (written e 0 ls) 0 (s ++ drop (length ls) e)
+unfolding written up
+copied f e ls s h = let k : 0 + length ls ≡ length ls = omega arith in record { is = rw (h, k) refl }
 
 pub all_long : (g : Sides) (ls : List ℕ) → length ls ≡ cells g → (k : ℕ) → length (all_labels g ls k) ≡ cells_before g k
 unfolding all_labels cells_before
@@ -156,38 +123,65 @@ module _ (g : Sides) (ls : List ℕ) (long : length ls ≡ cells g) (e : List �
   all_kept : (k : ℕ) → k ≤ 6 → Fit g → byte_need (cells g) ≤ length e → length (written e 0 (all_labels g ls k)) ≡ length e
   all_kept k h z r = length_written e 0 (all_labels g ls k) (omega (arith, all_long g ls long k, room_enough g (length e) k z r h))
 
--- ---- all levels, as the loop asks it: l is laid out for its own base
-module _ (l : Levels) (count : ℕ) (ls e s₀ : List ℕ) (a : LabelsAsked l count (length ls) (length e)) (h : s₀ ≡ written e 0 ls) where
-  stands : (k : ℕ) (s : List ℕ) → k < 6 → Up (next_step l) s₀ k s → s ≡ written e 0 (all_labels (base l) ls (suc k))
-  stands k s b u = u.is ∙ ap₂ (λ f x. up f k x) (ap next_step a.laid) h ∙ all_run (base l) ls a.full e k b
+-- ---- all levels, as the loop asks it: l is laid out for its own base, and all but its last level are gone through
+module _ (l : Levels) (count : ℕ) where
+  abbrev gone : Levels
+  gone = take (count - 1) l
 
-  pub all_same : (k : ℕ) (s : List ℕ) → k + 1 ≤ count → Up (next_step l) s₀ k s → length s ≡ length e
-  all_same k s b u = ap length (stands k s (omega (arith, a.most)) u) ∙ all_kept (base l) ls a.full e (suc k) (omega (arith, a.most)) a.fit a.room
+  abbrev turned : ℕ → Level
+  turned k = get_or gone k no_level
 
-  pub all_asks : (k : ℕ) (s : List ℕ) → k + 1 < count → Up (next_step l) s₀ k s → NextAsked l k (length s)
-  unfolding cells_before sides_at
-  all_asks k s b u =
-      let q : k < 6 = omega (arith, a.most) in
-      let p : sides_in l k ≡ sides_at (base l) k = ap (λ x. sides_in x k) a.laid ∙ sides_of_lem (base l) k q in
-      let r : start_in l k ≡ cells_before (base l) k = ap (λ x. start_in x k) a.laid ∙ start_of (base l) k q in
-      let m : cells_before (base l) (suc (suc k)) ≤ length e = room_enough (base l) (length e) (suc (suc k)) a.fit a.room (omega (arith, a.most)) in
-      record {
-        below = q;
-        fit = rw p (fit_at (base l) a.fit k);
-        room = omega (arith, all_same k s (omega arith) u, ap cells p, ap (λ x. cells (halved x)) p, r, m);
-      }
+  module _ (n m : ℕ) (a : LabelsAsked l count n m) where
+    gone_long : length gone ≡ count - 1
+    unfolding levels_of
+    gone_long = let q : length l ≡ 6 = ap length a.laid ∙ length_tab 6 (level_at (base l)) in length-take-le (count - 1) l (omega (arith, a.most))
 
-  pub all_end : (k : ℕ) (s : List ℕ) → k + 1 ≤ count → count ≤ k + 1 → Up (next_step l) s₀ k s → s ≡ written e 0 (all_labels (base l) ls count)
-  all_end k s b b' u =
-      let q : suc k ≡ count = omega arith in
-      stands k s (omega (arith, a.most)) u ∙ ap (λ n. written e 0 (all_labels (base l) ls n)) q
+    module _ (k : ℕ) (b : k < length gone) where
+      turned_is : turned k ≡ get_or l k no_level
+      turned_is = get_or-take (count - 1) l k no_level (omega (arith, gone_long))
+
+      turned_sides : (turned k).sides ≡ sides_at (base l) k
+      turned_sides = ap (λ (v : Level). v.sides) turned_is ∙ ap (λ x. sides_in x k) a.laid ∙ sides_of_lem (base l) k (omega (arith, gone_long, a.most))
+
+      turned_start : (turned k).start ≡ cells_before (base l) k
+      turned_start = ap (λ (v : Level). v.start) turned_is ∙ ap (λ x. start_in x k) a.laid ∙ start_of (base l) k (omega (arith, gone_long, a.most))
+
+      pub all_fit : Fit (turned k).sides
+      all_fit = rw turned_sides (fit_at (base l) a.fit k)
+
+  module _ (ls e : List ℕ) (a : LabelsAsked l count (length ls) (length e)) where
+    abbrev Stood : ℕ → List ℕ → Type 0
+    Stood k s = Up (next_step l) (written e 0 ls) k s
+
+    abbrev long : length gone ≡ count - 1
+    long = gone_long (length ls) (length e) a
+
+    stands : (k : ℕ) (s : List ℕ) → k < 6 → Stood k s → s ≡ written e 0 (all_labels (base l) ls (suc k))
+    stands k s b u = u.is ∙ ap (λ x. up (next_step x) k (written e 0 ls)) a.laid ∙ all_run (base l) ls a.full e k b
+
+    all_same : (k : ℕ) (s : List ℕ) → k + 1 ≤ count → Stood k s → length s ≡ length e
+    all_same k s b u = ap length (stands k s (omega (arith, a.most)) u) ∙ all_kept (base l) ls a.full e (suc k) (omega (arith, a.most)) a.fit a.room
+
+    pub all_room : (k : ℕ) (s : List ℕ) → k < length gone → Stood k s → (turned k).start + cells (turned k).sides + cells (halved (turned k).sides) ≤ length s
+    unfolding cells_before sides_at
+    all_room k s b u =
+        let m : cells_before (base l) (suc (suc k)) ≤ length e = room_enough (base l) (length e) (suc (suc k)) a.fit a.room (omega (arith, long, a.most)) in
+        let q : (turned k).sides ≡ sides_at (base l) k = turned_sides (length ls) (length e) a k b in
+        omega (arith, all_same k s (omega (arith, long)) u, ap cells q, ap (λ x. cells (halved x)) q, turned_start (length ls) (length e) a k b, m)
+
+    pub all_more : (k : ℕ) (s r : List ℕ) → k < length gone → Stood k s → r ≡ coarsened (turned k).sides (turned k).start s → Stood (k + 1) r
+    unfolding next_step
+    all_more k s r b u p = up_more u (p ∙ ap (λ (v : Level). coarsened v.sides v.start s) (turned_is (length ls) (length e) a k b))
+
+    pub all_end : (k : ℕ) (s : List ℕ) → k ≤ length gone → length gone ≤ k → Stood k s → s ≡ written e 0 (all_labels (base l) ls count)
+    all_end k s b b' u =
+        let q : suc k ≡ count = omega (arith, long, a.least) in
+        stands k s (omega (arith, long, a.most, a.least)) u ∙ ap (λ n. written e 0 (all_labels (base l) ls n)) q
 
 pub all_copies : (l : Levels) (count n m : ℕ) → LabelsAsked l count n m → n ≤ m
 unfolding byte_need
 all_copies l count n m a = omega (arith, a.full, a.room)
 
-pub ruleset copies = (rules, copied_none, copied_long, copied_room, copied_more, copied_end)
-
 pub ruleset coarsens = (rules, up_none, up_more, coarsen_at_is, coarsen_kept, coarsen_end, coarse_asked, coarse_room, next_fit)
 
-pub ruleset nexts = (rules, up_none, up_more, next_sides, next_room, next_is, all_same, all_asks, all_end, all_copies)
+pub ruleset nexts = (rules, copied, all_fit, all_room, all_more, all_end, all_copies)

@@ -6,9 +6,8 @@ use Rattle.method.specs.Levels.{halved, coarse_label, coarse}
 use Rattle.method.specs.Rooms.{byte_need}
 use Rattle.theory.specs.Levels.{sides_at, labels_at, cells_before}
 use Rattle.theory.specs.Sides.{Fit}
-use Rattle.levels.specs.declared.sides.Levels.{Levels}
 use Rattle.levels.specs.Rooms.{written}
-use Rattle.levels.specs.Levels.{levels_of, base, start_in, sides_in}
+use Rattle.levels.specs.Levels.{Levels, levels_of, base, start_in, sides_in}
 
 -- the labels of the levels 0, 1, .. k - 1, one after the other
 unfoldable pub all_labels : Sides → List ℕ → ℕ → List ℕ
@@ -37,12 +36,6 @@ pub record CoarseAsked (g h : Sides) (n c : ℕ) : Type 0 where
   pub next : h ≡ halved g
   pub count : n ≡ cells g
   pub inside : c < cells h
-
--- the level after level k, in a room of the given length
-pub record NextAsked (l : Levels) (k bytes : ℕ) : Type 0 where
-  pub below : k < 6
-  pub fit : Fit (sides_in l k)
-  pub room : start_in l k + cells (sides_in l k) + cells (halved (sides_in l k)) ≤ bytes
 
 -- count levels, in a room of the given length, of a cast with that many labels
 pub record LabelsAsked (l : Levels) (count labels bytes : ℕ) : Type 0 where

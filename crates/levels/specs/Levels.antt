@@ -1,46 +1,41 @@
 -- Where the levels of a box stand, and their sides.
-use Rattle.std.specs.Prelude.{ℕ, ◌+◌, set, get_or, replicate}
-use Rattle.laws.specs.Loops.{up}
+use Rattle.std.specs.Prelude.{ℕ, ◌+◌, cond, ltb, List, get_or}
 use Rattle.laws.specs.Lists.{tab}
 use Rattle.method.specs.declared.Sides.{Sides}
 use Rattle.method.specs.Cast.{cells}
 use Rattle.method.specs.Levels.{halved}
 use Rattle.theory.specs.Levels.{sides_at, cells_before}
-use Rattle.levels.specs.declared.sides.Levels.{Levels}
-use Rattle.levels.specs.declared.sides.Fill.{Fill}
+use Rattle.levels.specs.declared.sides.Level.{Level}
 
--- the six levels of a box: each starts where the one before it ends
+-- six levels, whatever the number of levels used
+abbrev pub Levels : Type 0
+Levels = List Level
+
+-- level k of a box: it starts where the one before it ends
+unfoldable pub level_at : Sides → ℕ → Level
+level_at g k = record { start = cells_before g k; sides = sides_at g k }
+
 unfoldable pub levels_of : Sides → Levels
-levels_of g = record {
-  start = tab 6 (cells_before g);
-  nx = tab 6 (λ k. (sides_at g k).nx);
-  ny = tab 6 (λ k. (sides_at g k).ny);
-  nz = tab 6 (λ k. (sides_at g k).nz);
-}
+levels_of g = tab 6 (level_at g)
+
+-- of six levels, what is read of level k; 0 and no sides beyond the sixth
+abbrev pub no_level : Level
+no_level = record { start = 0; sides = record { nx = 0; ny = 0; nz = 0 } }
 
 abbrev pub start_in : Levels → ℕ → ℕ
-start_in l k = get_or l.start k 0
+start_in l k = (get_or l k no_level).start
 
 abbrev pub sides_in : Levels → ℕ → Sides
-sides_in l k = record { nx = get_or l.nx k 0; ny = get_or l.ny k 0; nz = get_or l.nz k 0 }
+sides_in l k = (get_or l k no_level).sides
 
 -- the sides of level 0
 unfoldable pub base : Levels → Sides
 base l = sides_in l 0
 
--- ---- how they are written down: level k, and the next is made ready
-abbrev pub level_set : Levels → ℕ → ℕ → Sides → Levels
-level_set l k at g = record { start = set l.start k at; nx = set l.nx k g.nx; ny = set l.ny k g.ny; nz = set l.nz k g.nz }
+-- the level after this one
+unfoldable pub next_level : Level → Level
+next_level l = record { start = l.start + cells l.sides; sides = halved l.sides }
 
-abbrev pub fill_step : ℕ → Fill → Fill
-fill_step k f = record { levels = level_set f.levels k f.at f.sides; at = f.at + cells f.sides; sides = halved f.sides }
-
-abbrev pub empty_fill : Sides → Fill
-empty_fill g = record {
-  levels = record { start = replicate 6 0; nx = replicate 6 0; ny = replicate 6 0; nz = replicate 6 0 };
-  at = 0;
-  sides = g;
-}
-
-unfoldable pub filled : Sides → Fill
-filled g = up fill_step 6 (empty_fill g)
+-- ---- of six levels, what f gives for the first k, and z for the others
+unfoldable pub firsts : {A : Type 0} → A → (ℕ → A) → ℕ → List A
+firsts z f k = tab 6 (λ j. cond (ltb j k) (f j) z)

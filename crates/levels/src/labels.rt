@@ -6,7 +6,7 @@ ghost use Rattle.theory.specs.Sides.{Fit};
 ghost use Rattle.levels.specs.Rooms.{written};
 ghost use Rattle.levels.specs.Levels.{base};
 ghost use Rattle.levels.specs.Kin.{Near, child_at, outrank};
-ghost use Rattle.levels.specs.AllLabels.{CoarseAsked, NextAsked, LabelsAsked, all_labels, coarsen_step, next_step};
+ghost use Rattle.levels.specs.AllLabels.{CoarseAsked, LabelsAsked, all_labels, coarsen_step};
 
 use crate::sides::Levels;
 use grid::place::Spot;
@@ -58,10 +58,8 @@ pub fn coarse_label(labels: &[u8], g: Sides, h: Sides, n: usize, c: usize) -> u8
 {
     let s = grid::place::spot_of(h, c);
     let mut label = 2;
-    let mut t = 0;
-    while t < 8 {
+    for t in 0..8 {
         label = label_step(labels, g, n, s, t, label);
-        t += 1;
     }
     label
 }
@@ -86,43 +84,18 @@ pub fn coarsen(bytes: &mut [u8], at: usize, g: Sides)
     let h = crate::sides::halved_of(g);
     let n = grid::place::cell_count(g);
     let m = grid::place::cell_count(h);
-    let mut c = 0;
-    while c < m {
+    for c in 0..m {
         coarsen_at(bytes, at, g, h, n, c);
-        c += 1;
     }
 }
 
-// The labels of level k + 1.
-fn next_labels(bytes: &mut [u8], l: Levels, k: usize)
-    requires { NextAsked l k (length bytes.old) }
-    ensures { bytes.new ≡ next_step l k bytes.old }
-{
-    let at = l.start[k];
-    coarsen(bytes, at, crate::sides::sides_at(l, k));
-}
-
-// The caller's labels as level 0's.
-fn copy(bytes: &mut [u8], labels: &[u8])
-    requires { length labels.now ≤ length bytes.old }
-    ensures { bytes.new ≡ written bytes.old 0 labels.now }
-{
-    let mut i = 0;
-    while i < labels.len() {
-        bytes[i] = labels[i];
-        i += 1;
-    }
-}
-
-// The labels of the levels 0 to count - 1, one after the other.
+// The labels of the levels 0 to count - 1, one after the other: each level but the last gives those of the next.
 pub fn all_labels(bytes: &mut [u8], labels: &[u8], l: Levels, count: usize)
     requires { LabelsAsked l count (length labels.now) (length bytes.old) }
     ensures { bytes.new ≡ written bytes.old 0 (all_labels (base l) labels.now count) }
 {
-    copy(bytes, labels);
-    let mut k = 0;
-    while k + 1 < count {
-        next_labels(bytes, l, k);
-        k += 1;
+    bytes[..labels.len()].copy_from_slice(labels);
+    for level in &l[..count - 1] {
+        coarsen(bytes, level.start, level.sides);
     }
 }

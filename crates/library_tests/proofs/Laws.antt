@@ -14,9 +14,7 @@ use mir.Val.{SFits, to_z, of_z}
 use mir.Facts.{to_z-of_z}
 use Rattle.laws.specs.Binary64.{+0}
 use Rattle.method.specs.declared.Sides.{Sides}
-use Rattle.method.specs.declared.Found.TheVariants.{Nowhere, At}
-use Rattle.method.specs.declared.Tick.{Tick}
-use Rattle.method.specs.declared.Tick.TheVariants.{Whole, Refused}
+use Rattle.std.specs.Prelude.{None, Some, Option}
 use Rattle.method.specs.Cast.{cells, sides_fit, judged, interior}
 use Rattle.method.specs.Cycle.{cycle}
 use Rattle.method.specs.Ticks.{tick}
@@ -27,12 +25,10 @@ use Rattle.theory.proofs.Sides.{fit, fits}
 use Rattle.theory.proofs.Sizes.{cells_of_six}
 use Rattle.theory.proofs.Counting.{counted_le}
 use Rattle.grid.proofs.Steps.{cells_most}
-use Rattle.levels.specs.declared.sides.Levels.{Levels}
-use Rattle.bands.specs.declared.lists.Lists.{Lists}
 use Rattle.levels.specs.Rooms.{written}
-use Rattle.levels.specs.Levels.{levels_of, base}
+use Rattle.levels.specs.Levels.{levels_of, base, Levels}
 use Rattle.levels.specs.AllLabels.{LabelsAsked, all_labels}
-use Rattle.bands.specs.AllLists.{base_labels, AllListed, ListsAsked}
+use Rattle.bands.specs.AllLists.{base_labels, AllListed, ListsAsked, Lists}
 use Rattle.levels.proofs.Calls.{base_is, labels_asked}
 use Rattle.bands.proofs.Calls.{base_labels_lem, lists_asked}
 use Rattle.smooth.specs.Fields.{u_of, b_of}
@@ -140,20 +136,20 @@ pub roomy_is : (g : Sides) (ls room : List ℕ) (n : ℕ) → Fit g → n ≡ ce
 roomy_is g ls room n z e l w = record { fit = z; sized = l ∙ e; long = omega arith }
 
 module _ (g : Sides) (ls room left : List ℕ) (w : Walked) (z : Measured g ls room left w) where
-  pub walked_sealed : (c : ℕ) → w.sealed ≡ At c → WalkOf g ls (record { fits = 1; depth = w.depth; found = 1; sealed = c })
+  pub walked_sealed : (c : ℕ) → w.sealed ≡ Some c → WalkOf g ls (record { fits = 1; depth = w.depth; found = 1; sealed = c })
   unfolding SealedAs
   walked_sealed c e = record { depth = λ q. z.depth_is; sealed = λ q. rw (← z.sealed_is, e) (refl, refl) }
 
-  pub walked_open : w.sealed ≡ Nowhere → WalkOf g ls (record { fits = 1; depth = w.depth; found = 0; sealed = 0 })
+  pub walked_open : w.sealed ≡ None → WalkOf g ls (record { fits = 1; depth = w.depth; found = 0; sealed = 0 })
   unfolding SealedAs
   walked_open e = record { depth = λ q. z.depth_is; sealed = λ q. rw (← z.sealed_is, e) refl }
 
 -- the value as the machine reads it back from its bits
-pub tick_whole : (x : Float) (t : Tick) (z : ℤ) → SFits w64 z → t ≡ tick x → t ≡ Whole z → TickOf x (record { whole = 1; value = to_z w64 (of_z w64 z) })
+pub tick_whole : (x : Float) (t : Option ℤ) (z : ℤ) → SFits w64 z → t ≡ tick x → t ≡ Some z → TickOf x (record { whole = 1; value = to_z w64 (of_z w64 z) })
 unfolding TickAs
 tick_whole x t z f e q = record { is = rw (← e, q) (refl, to_z-of_z f) }
 
-pub tick_none : (x : Float) (t : Tick) → t ≡ tick x → t ≡ Refused → TickOf x (record { whole = 0; value = pos 0 })
+pub tick_none : (x : Float) (t : Option ℤ) → t ≡ tick x → t ≡ None → TickOf x (record { whole = 0; value = pos 0 })
 unfolding TickAs
 tick_none x t e q = record { is = rw (← e, q) refl }
 

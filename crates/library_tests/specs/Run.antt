@@ -1,13 +1,9 @@
 -- What a run of the cycle asks of a cast and of its rooms' lengths; what the calls promise.
-use Rattle.std.specs.Prelude.{ℕ, ◌+◌, ◌-◌, ◌*◌, ◌≤◌, ◌≡◌, List, Float, length, ℤ}
+use Rattle.std.specs.Prelude.{ℕ, ◌+◌, ◌-◌, ◌*◌, ◌≤◌, ◌≡◌, List, Float, length, ℤ, Option, None, Some}
 use Rattle.method.specs.declared.Sides.{Sides}
-use Rattle.method.specs.declared.Found.{Found}
-use Rattle.method.specs.declared.Found.TheVariants.{Nowhere, At}
 use Rattle.method.specs.Cast.{cells}
 use Rattle.method.specs.Walks.{sealed}
 use Rattle.method.specs.Walks as Cast
-use Rattle.method.specs.declared.Tick.{Tick}
-use Rattle.method.specs.declared.Tick.TheVariants.{Whole, Refused}
 use Rattle.method.specs.Cycle.{cycle}
 use Rattle.method.specs.Ticks.{tick}
 use Rattle.method.specs.declared.Settings.{Settings}
@@ -39,9 +35,9 @@ pub record CycleOf (g : Sides) (levels : ℕ) (ls : List ℕ) (e : List Float) (
   pub ran : r ≡ 1 → u_of (cells g) x ≡ cycle 0 (levels - 1) g ls (b_of (cells g) e)
 
 -- the first sealed cell as two numbers
-unfoldable pub SealedAs : Found → ℕ → ℕ → Type 0
-SealedAs (At c) is place = (is ≡ 1) × (place ≡ c)
-SealedAs Nowhere is place = is ≡ 0
+unfoldable pub SealedAs : Option ℕ → ℕ → ℕ → Type 0
+SealedAs (Some c) is place = (is ≡ 1) × (place ≡ c)
+SealedAs None is place = is ≡ 0
 
 -- THE PROMISE of quetz_test_walk: where the cast fits, depth and the first sealed cell are document 01's
 pub record WalkOf (g : Sides) (ls : List ℕ) (r : Walk) : Type 0 where
@@ -49,9 +45,9 @@ pub record WalkOf (g : Sides) (ls : List ℕ) (r : Walk) : Type 0 where
   pub sealed : r.fits ≡ 1 → SealedAs (sealed g ls) r.found r.sealed
 
 -- a tick as two numbers
-unfoldable pub TickAs : Tick → ℕ → ℤ → Type 0
-TickAs (Whole z) is value = (is ≡ 1) × (value ≡ z)
-TickAs Refused is value = is ≡ 0
+unfoldable pub TickAs : Option ℤ → ℕ → ℤ → Type 0
+TickAs (Some z) is value = (is ≡ 1) × (value ≡ z)
+TickAs None is value = is ≡ 0
 
 -- THE PROMISE of quetz_test_tick
 pub record TickOf (x : Float) (r : Ticked) : Type 0 where

@@ -16,7 +16,7 @@ use bands::lists::Lists;
 use checks::cast::sides_fit;
 use grid::place::cell_count;
 use levels::sides::Levels;
-use method::{Found, Settings, Sides, Tick};
+use method::{Settings, Sides};
 
 // What a walk through a cast found: whether the cast and the room fit (else all is 0), depth, and the first sealed cell
 // if there is one.
@@ -52,10 +52,8 @@ fn cycles(
     ensures { Cycled l bytes.now count 0 room.old room.new }
 {
     cycle::cycle(room, bytes, words, l, s, count, 0);
-    let mut i = 1;
-    while i < times {
+    for _ in 1..times {
         cycle::cycle(room, bytes, words, l, s, count, 0);
-        i += 1;
     }
 }
 
@@ -168,15 +166,14 @@ fn fitted_walk(sides: Sides, labels: &[u8], words: &mut [u32]) -> Walk
         return unfit();
     }
     let w = distances::distances(words, labels, sides);
-    let sealed = w.sealed;
-    match sealed {
-        Found::At(c) => Walk {
+    match w.sealed {
+        Some(c) => Walk {
             fits: 1,
             depth: w.depth,
             found: 1,
             sealed: c,
         },
-        Found::Nowhere => Walk {
+        None => Walk {
             fits: 1,
             depth: w.depth,
             found: 0,
@@ -202,8 +199,8 @@ pub extern "C" fn quetz_test_tick(x: f64) -> Ticked
     ensures { TickOf x result }
 {
     match ticks::tick::to_tick(x) {
-        Tick::Whole(z) => Ticked { whole: 1, value: z },
-        Tick::Refused => Ticked { whole: 0, value: 0 },
+        Some(z) => Ticked { whole: 1, value: z },
+        None => Ticked { whole: 0, value: 0 },
     }
 }
 

@@ -16,7 +16,7 @@ use Rattle.laws.specs.Binary64.{+0}
 use Rattle.method.specs.declared.Sides.{Sides}
 use Rattle.method.specs.declared.Settings.{Settings}
 use Rattle.method.specs.declared.Answer.{Answer}
-use Rattle.method.specs.declared.Found.TheVariants.{Nowhere}
+use Rattle.std.specs.Prelude.{None}
 use Rattle.method.specs.Cast.{sides_fit, settings_fit, interior}
 use Rattle.method.specs.Walks.{sealed}
 use Rattle.method.specs.Answers.{Verdict, passed, refused, verdict, refusal}
@@ -100,7 +100,7 @@ module _ (g : Sides) (ls : List ℕ) (t : Settings) (sets : ℕ) (vs ps rs : Lis
     ok : AllPass many_checks_before7 a
     ok = all_pass many_checks_before7 a z.passes
 
-    past : sealed g ls ≡ Nowhere → Past g ls t
+    past : sealed g ls ≡ None → Past g ls t
     unfolding many_checks_before7
     past e = record {
       sides = no_fault (sides_fit g) ok.0;

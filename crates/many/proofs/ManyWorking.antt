@@ -13,8 +13,7 @@ use Rattle.laws.specs.Binary64.{+0}
 use Rattle.method.specs.declared.Sides.{Sides}
 use Rattle.method.specs.declared.Settings.{Settings}
 use Rattle.method.specs.declared.Answer.{Answer}
-use Rattle.method.specs.declared.Found.{Found}
-use Rattle.method.specs.declared.Found.TheVariants.{Nowhere, At}
+use Rattle.std.specs.Prelude.{Option, None, Some}
 use Rattle.method.specs.Cast.{cells, label_at, field, widest, first, between, settings_fit, bad_value, interior}
 use Rattle.method.specs.Walks.{sealed}
 use Rattle.method.specs.Walks.{depth as Cast·depth}
@@ -77,11 +76,11 @@ module _ (g : Sides) (ls : List ℕ) (t : Settings) (p : Past g ls t) where
     enough {A = ℕ} (word_need (cells g)) 0,
   )
 
-  no_bad_value : bad_value g ls zeros ≡ Nowhere
+  no_bad_value : bad_value g ls zeros ≡ None
   unfolding bad_value
   no_bad_value = go (search_first _ (cells g))
     where
-      go : Search (λ c. ltb (widest (label_at ls c)) (nat_abs (field zeros c))) (cells g) → first (λ c. ltb (widest (label_at ls c)) (nat_abs (field zeros c))) (cells g) ≡ Nowhere
+      go : Search (λ c. ltb (widest (label_at ls c)) (nat_abs (field zeros c))) (cells g) → first (λ c. ltb (widest (label_at ls c)) (nat_abs (field zeros c))) (cells g) ≡ None
       go (none e r) = e
       go (found c e r) =
           absurd (not_so (ltb (widest (label_at ls c)) (nat_abs (field zeros c))) (ap (λ z. ltb (widest (label_at ls c)) (nat_abs z)) (get_or-replicate (cells g) c (pos 0) (pos 0) r.below) ∙ no_size (widest (label_at ls c))) r.here)
@@ -116,7 +115,7 @@ module _ {g : Sides} {ls : List ℕ} {t : Settings} {sets : ℕ} {vs : List ℤ}
   pub count_fit : Fit g
   count_fit = fit g z.sides
 
-  module _ (w : Found) (e : w ≡ sealed g ls) (h : w ≡ Nowhere) where
+  module _ (w : Option ℕ) (e : w ≡ sealed g ls) (h : w ≡ None) where
     pub prepare_asked : (room : List ℕ) → length room ≡ words → PrepareAsked g ls t.levels bytes (length room)
     prepare_asked room q = past_prepare g ls t (z.past (sym e ∙ h)) bytes (length room) z.bytes_long (q ∙ z.words_long)
 
@@ -132,25 +131,25 @@ module _ (a : AskedMany) where
     | passed ↦ many_handed_back a done (end_to_end a.sets (set_pressures a)) (end_to_end a.sets (set_fields a))
   ]
 
-  from_refused : (place : ℕ) → sealed a.sides a.labels ≡ At place → many_from_seven a ≡ many_handed_back a (refusal 7 place) a.pressures a.answers
+  from_refused : (place : ℕ) → sealed a.sides a.labels ≡ Some place → many_from_seven a ≡ many_handed_back a (refusal 7 place) a.pressures a.answers
   unfolding many_from_seven many_checks_from7
   from_refused place e = ap by_verdict (fails_at (check 7 (λ (b : AskedMany). sealed b.sides b.labels)) [] a place e)
 
-  from_passed : sealed a.sides a.labels ≡ Nowhere → many_from_seven a ≡ many_handed_back a done (end_to_end a.sets (set_pressures a)) (end_to_end a.sets (set_fields a))
+  from_passed : sealed a.sides a.labels ≡ None → many_from_seven a ≡ many_handed_back a done (end_to_end a.sets (set_pressures a)) (end_to_end a.sets (set_fields a))
   unfolding many_from_seven many_checks_from7 verdict
   from_passed e = ap by_verdict (passes_on (check 7 (λ (b : AskedMany). sealed b.sides b.labels)) [] a e)
 
 back_same : (a : AskedMany) {r r' : Answer} {ps ps' rs rs' : List ℤ} → r ≡ r' → ps ≡ ps' → rs ≡ rs' → many_handed_back a r ps rs ≡ many_handed_back a r' ps' rs'
 back_same a er ep es = rw (er, ep, es) refl
 
-module _ (g : Sides) (ls : List ℕ) (vs : List ℤ) (t : Settings) (sets : ℕ) (ps rs : List ℤ) (r : Answer) (w : Found) (e : w ≡ sealed g ls) where
-  pub worked_refused : (place : ℕ) → w ≡ At place → r ≡ refusal 7 place → ManyWorked g ls vs t sets ps rs r ps rs
+module _ (g : Sides) (ls : List ℕ) (vs : List ℤ) (t : Settings) (sets : ℕ) (ps rs : List ℤ) (r : Answer) (w : Option ℕ) (e : w ≡ sealed g ls) where
+  pub worked_refused : (place : ℕ) → w ≡ Some place → r ≡ refusal 7 place → ManyWorked g ls vs t sets ps rs r ps rs
   worked_refused place h q = record {
     is = λ a z.
         from_refused a place (ap₂ sealed z.sides z.labels ∙ sym e ∙ h) ∙ back_same a (sym q) z.pressures z.answers;
   }
 
-  pub worked_sets : (qs ss : List ℤ) → w ≡ Nowhere → r ≡ refusal 0 0 → SetsOf g ls vs t sets ps rs qs ss → ManyWorked g ls vs t sets ps rs r qs ss
+  pub worked_sets : (qs ss : List ℤ) → w ≡ None → r ≡ refusal 0 0 → SetsOf g ls vs t sets ps rs qs ss → ManyWorked g ls vs t sets ps rs r qs ss
   unfolding done
   worked_sets qs ss h q p = record {
     is = λ a z.

@@ -1,9 +1,8 @@
 -- What the solver of many sets is asked, and its promise.
-use Rattle.std.specs.Prelude.{ℕ, ◌≡◌, true, List, length, ℤ, Float}
+use Rattle.std.specs.Prelude.{ℕ, ◌≡◌, true, List, length, ℤ, Float, None}
 use Rattle.method.specs.declared.Sides.{Sides}
 use Rattle.method.specs.declared.Settings.{Settings}
 use Rattle.method.specs.declared.Answer.{Answer}
-use Rattle.method.specs.declared.Found.TheVariants.{Nowhere}
 use Rattle.method.specs.Cast.{cells, sides_fit}
 use Rattle.method.specs.Walks.{sealed}
 use Rattle.method.specs.Answers.{passed, refused, verdict, refusal, done}
@@ -37,7 +36,7 @@ pub record SolveManyOf (a : AskedMany) (r : Answer) (ps rs : List ℤ) (bytes : 
 
 -- ---- past check 6, in rooms of just the size needed
 pub record ManyChecked (g : Sides) (ls : List ℕ) (t : Settings) (sets : ℕ) (vs : List ℤ) (pressures answers bytes floats words : ℕ) : Type 0 where
-  pub past : sealed g ls ≡ Nowhere → Past g ls t
+  pub past : sealed g ls ≡ None → Past g ls t
   pub labelled : length ls ≡ cells g
   pub sides : sides_fit g ≡ true
   pub sets_asked : SetsAsked g vs sets pressures answers

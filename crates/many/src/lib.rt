@@ -5,11 +5,10 @@
 ghost use Rattle.std.specs.Prelude.{◌≡◌, ◌+◌, ◌*◌, length};
 ghost use Rattle.many.specs.ManySolve.{asked_many, SolveManyOf, ManyChecked, ManyWorked};
 
-use answers::{Measured, refusal};
-use checks::Ruling;
+use answers::{Fault, Measured, refusal};
 use many_checks::{Lengths, judge};
 use many_sets::all_sets;
-use method::{Answer, Found, Settings, Sides};
+use method::{Answer, Settings, Sides};
 use rooms::clear;
 use solve::prepare::prepare;
 
@@ -30,10 +29,9 @@ fn work(
     ensures { ManyWorked sides labels.now values.now settings sets pressures.old answers.old result pressures.new answers.new }
 {
     let walked = distances::distances(words, labels, sides);
-    let sealed = walked.sealed;
-    match sealed {
-        Found::At(place) => refusal(7, place),
-        Found::Nowhere => {
+    match walked.sealed {
+        Some(cell) => Answer::from(Fault::SealedAir(cell)),
+        None => {
             let of = Measured {
                 interior: grid::interior::interior(labels, sides),
                 depth: walked.depth,
@@ -83,8 +81,8 @@ pub fn solve_many(
         words: words.len(),
     };
     match judge(sides, labels, settings, sets, of) {
-        Ruling::Refused(number, place) => refusal(number, place),
-        Ruling::Allowed => {
+        Err(fault) => Answer::from(fault),
+        Ok(()) => {
             let n = labels.len();
             let b = 2 * n + 16;
             let f = 8 * n + 64;

@@ -7,8 +7,7 @@ use native.Mathlib.Omega.{arith}
 use lib.IntN.{ℤ, pos, nat_abs}
 use Rattle.laws.specs.Whole.{◌-ᶻ◌, ◌*ᶻ◌}
 use Rattle.method.specs.declared.Answer.{Answer}
-use Rattle.method.specs.declared.Found.{Found}
-use Rattle.method.specs.declared.Found.TheVariants.{Nowhere, At}
+use Rattle.std.specs.Prelude.{Option, None, Some}
 use Rattle.method.specs.Cast.{label_at, field}
 use Rattle.method.specs.Walks.{sealed}
 use Rattle.method.specs.Answers.{Verdict, passed, refused, verdict, refusal, done}
@@ -25,15 +24,15 @@ use Rattle.many_checks.proofs.ManyLaws.{Lent, lent, laid_stretch, fields_one, se
 -- ---- how an answer 0 of the whole call came about
 pub record CameMany (a : AskedMany) : Type 0 where
   pub checked : AllPass many_checks_before7 a
-  pub none_sealed : sealed a.sides a.labels ≡ Nowhere
+  pub none_sealed : sealed a.sides a.labels ≡ None
   pub result : solving_many a ≡ many_handed_back a done (end_to_end a.sets (set_pressures a)) (end_to_end a.sets (set_fields a))
 
 pub came_many : (a : AskedMany) → (solving_many a).answer.number ≡ 0 → CameMany a
 unfolding solving_many many_checks_before7 many_checks_from7 verdict many_untouched many_handed_back refusal
 came_many a z = go (judge many_checks_before7 a) (sealed a.sides a.labels) refl
   where
-    seven : Found → SolvedMany
-    seven f = elim (elim f as (λ _. Verdict) [ At place ↦ refused 7 place | Nowhere ↦ passed ]) as (λ _. SolvedMany) [
+    seven : Option ℕ → SolvedMany
+    seven f = elim (elim f as (λ _. Verdict) [ Some place ↦ refused 7 place | None ↦ passed ]) as (λ _. SolvedMany) [
       | refused num place ↦ many_handed_back a (refusal num place) a.pressures a.answers
       | passed ↦ many_handed_back a done (end_to_end a.sets (set_pressures a)) (end_to_end a.sets (set_fields a))
     ]
@@ -44,10 +43,10 @@ came_many a z = go (judge many_checks_before7 a) (sealed a.sides a.labels) refl
     number : SolvedMany → ℕ
     number r = r.answer.number
 
-    go : Judged many_checks_before7 a → (f : Found) → sealed a.sides a.labels ≡ f → CameMany a
+    go : Judged many_checks_before7 a → (f : Option ℕ) → sealed a.sides a.labels ≡ f → CameMany a
     go (faulty num place v f) g q = let r = f 1 6 (omega arith) in absurd (omega (arith, r.0, z, ap number (ap whole v)))
-    go (fine v p) (At place) q = absurd (omega (arith, z, ap number (ap whole v ∙ ap seven q)))
-    go (fine v p) Nowhere q = record { checked = p; none_sealed = q; result = ap whole v ∙ ap seven q }
+    go (fine v p) (Some place) q = absurd (omega (arith, z, ap number (ap whole v ∙ ap seven q)))
+    go (fine v p) None q = record { checked = p; none_sealed = q; result = ap whole v ∙ ap seven q }
 
 module _ (a : AskedMany) (z : (solving_many a).answer.number ≡ 0) where
   is_lent : Lent a

@@ -1,14 +1,13 @@
 -- The checks before 7 by what they look at: sides, labels, settings, the number of sets, and the lengths of what is
 -- lent.
-use Rattle.std.specs.Prelude.{ℕ, ◌*◌, Bool, not, ◌&&◌, cond, List, ltb, leb, eqb, length}
+use Rattle.std.specs.Prelude.{ℕ, ◌*◌, Bool, ◌&&◌, List, ltb, leb, eqb, length, Result}
 use Rattle.method.specs.declared.Sides.{Sides}
 use Rattle.method.specs.declared.Settings.{Settings}
 use Rattle.method.specs.Cast.{cells, sides_fit, settings_fit, interior, first}
-use Rattle.method.specs.Answers.{fault}
 use Rattle.method.specs.Rooms.{byte_need, float_need, word_need}
-use Rattle.checks.specs.declared.Ruling.{Ruling}
-use Rattle.checks.specs.declared.Ruling.TheVariants.{Refused}
-use Rattle.checks.specs.Rulings.{ruling_by, first_of}
+use Rattle.answers.specs.declared.Fault.{Fault}
+use Rattle.answers.specs.declared.Fault.TheVariants.{SideOutOfRange, WrongLength, SettingOutOfRange, BadLabel, NoAir}
+use Rattle.checks.specs.Rulings.{ruling_by, unless, first_of}
 use Rattle.checks.specs.Faults.{bad_label_at}
 use Rattle.method.specs.Many.{AskedMany, field_count, sets_fit}
 use Rattle.many_checks.specs.declared.Lengths.{Lengths}
@@ -31,12 +30,13 @@ lengths_by n sets labels of =
     && (leb (byte_need n) of.bytes && (leb (float_need n) of.floats && leb (word_need n) of.words)))))
 
 -- checks 3, 4 and 6
-unfoldable pub content_ruling : Sides → List ℕ → Settings → ℕ → ℕ → Ruling
+abbrev pub content_ruling : Sides → List ℕ → Settings → ℕ → ℕ → Result (Unit {0}) Fault
 content_ruling g ls t sets n =
-    first_of (ruling_by 3 (fault (not (settings_fit t && sets_fit sets))))
-    (first_of (ruling_by 4 (first (bad_label_at ls) n)) (ruling_by 6 (fault (not (ltb 0 (interior g ls))))))
+    first_of (unless SettingOutOfRange (settings_fit t && sets_fit sets))
+    (first_of (ruling_by BadLabel (first (bad_label_at ls) n)) (unless NoAir (ltb 0 (interior g ls))))
 
 -- all of them: that this is the verdict of document 02's checks is shown in proofs/ManyJudging
-unfoldable pub many_ruling : Sides → List ℕ → Settings → ℕ → Lengths → Ruling
+abbrev pub many_ruling : Sides → List ℕ → Settings → ℕ → Lengths → Result (Unit {0}) Fault
 many_ruling g ls t sets of =
-    cond (sides_fit g) (cond (lengths_by (cells g) sets (length ls) of) (content_ruling g ls t sets (cells g)) (Refused 2 0)) (Refused 1 0)
+    first_of (unless SideOutOfRange (sides_fit g))
+    (first_of (unless WrongLength (lengths_by (cells g) sets (length ls) of)) (content_ruling g ls t sets (cells g)))

@@ -3,13 +3,14 @@
 
 ghost use Rattle.std.specs.Prelude.{◌≡◌, ◌&&◌, ◌*◌, ◌≤◌, length};
 ghost use Rattle.method.specs.Cast.{cells, settings_fit};
+ghost use Rattle.answers.specs.declared.Fault.TheVariants.{SettingOutOfRange};
+ghost use Rattle.checks.specs.Rulings.{unless};
 ghost use Rattle.theory.specs.Sides.{Fit};
 ghost use Rattle.method.specs.Many.{sets_fit};
 ghost use Rattle.many_checks.specs.ManyRulings.{lengths_by, content_ruling, many_ruling};
 
-use checks::Ruling;
-use checks::cast::{bad_label, settings_fit, sides_fit};
-use checks::rule::{earlier, fault_unless, ruled};
+use answers::Fault;
+use checks::cast::{judge_air, judge_labels, judge_sides, settings_fit};
 use grid::place::cell_count;
 use method::{Settings, Sides};
 
@@ -33,73 +34,77 @@ fn laid(sets: u32, n: usize) -> usize
 }
 
 // Check 2: values, pressures and answers are as long as the number of sets says, and no room is short.
+#[tactic(auto, unfolding(crate::specs::ManyRulings::lengths_by, method::specs::Rooms::byte_need, method::specs::Rooms::float_need, method::specs::Rooms::word_need))]
 fn lengths_fit(n: usize, sets: u32, labels: usize, of: Lengths) -> bool
     requires { n ≤ 32768 }
     ensures { result ≡ lengths_by n sets labels of }
 {
-    if labels != n {
-        return false;
-    }
-    let all = laid(sets, n);
-    if of.values != all {
-        return false;
-    }
-    if of.pressures != all {
-        return false;
-    }
-    if of.answers != laid(sets, 8) {
-        return false;
-    }
-    if of.bytes < 2 * n + 16 {
-        return false;
-    }
-    if of.floats < 8 * n + 64 {
-        return false;
-    }
-    2 * n <= of.words
+    labels == n
+        && of.values == laid(sets, n)
+        && of.pressures == laid(sets, n)
+        && of.answers == laid(sets, 8)
+        && 2 * n + 16 <= of.bytes
+        && 8 * n + 64 <= of.floats
+        && 2 * n <= of.words
 }
 
 // Whether the number of sets is 1 to 64.
+#[tactic(auto, unfolding(method::specs::Many::sets_fit, method::specs::Cast::between))]
 fn sets_fit(sets: u32) -> bool
     ensures { result ≡ sets_fit sets }
 {
-    let some = 1 <= sets;
-    some && sets <= 64
+    1 <= sets && sets <= 64
 }
 
 // Check 3: each setting is in its range, and the number of sets.
 fn task_fits(settings: Settings, sets: u32) -> bool
     ensures { result ≡ (settings_fit settings && sets_fit sets) }
 {
-    if settings_fit(settings) {
-        sets_fit(sets)
+    settings_fit(settings) && sets_fit(sets)
+}
+
+// Check 3 and its fault.
+fn judge_task(settings: Settings, sets: u32) -> Result<(), Fault>
+    ensures { result ≡ unless SettingOutOfRange (settings_fit settings && sets_fit sets) }
+{
+    if task_fits(settings, sets) {
+        Ok(())
     } else {
-        false
+        Err(Fault::SettingOutOfRange)
     }
 }
 
 // Checks 3, 4 and 6, of a cast with a label for each of its n cells.
-fn judge_content(sides: Sides, labels: &[u8], settings: Settings, sets: u32, n: usize) -> Ruling
+fn judge_content(
+    sides: Sides,
+    labels: &[u8],
+    settings: Settings,
+    sets: u32,
+    n: usize,
+) -> Result<(), Fault>
     requires fit { Fit sides }
     requires n_value { (n ≡ cells sides) × ((n ≤ 32768) × (length labels.now ≡ n)) }
     ensures { result ≡ content_ruling sides labels.now settings sets n }
 {
-    let third = ruled(3, fault_unless(task_fits(settings, sets)));
-    let fourth = ruled(4, bad_label(labels, n));
-    let sixth = ruled(6, fault_unless(0 < grid::interior::interior(labels, sides)));
-    earlier(third, earlier(fourth, sixth))
+    judge_task(settings, sets)?;
+    judge_labels(labels, n)?;
+    judge_air(sides, labels)
 }
 
 // Checks 1 and 2, and then those of the content.
-pub fn judge(sides: Sides, labels: &[u8], settings: Settings, sets: u32, of: Lengths) -> Ruling
+pub fn judge(
+    sides: Sides,
+    labels: &[u8],
+    settings: Settings,
+    sets: u32,
+    of: Lengths,
+) -> Result<(), Fault>
     ensures { result ≡ many_ruling sides labels.now settings sets of }
 {
-    if sides_fit(sides) {
-        let n = cell_count(sides);
-        if lengths_fit(n, sets, labels.len(), of) {
-            return judge_content(sides, labels, settings, sets, n);
-        }
-        return Ruling::Refused(2, 0);
+    judge_sides(sides)?;
+    let n = cell_count(sides);
+    if !lengths_fit(n, sets, labels.len(), of) {
+        return Err(Fault::WrongLength);
     }
-    Ruling::Refused(1, 0)
+    judge_content(sides, labels, settings, sets, n)
 }

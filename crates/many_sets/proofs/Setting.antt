@@ -14,8 +14,7 @@ use mir.Facts.{to_z_pos, to_z-of_z}
 use Rattle.method.specs.declared.Sides.{Sides}
 use Rattle.method.specs.declared.Settings.{Settings}
 use Rattle.method.specs.declared.Answer.{Answer}
-use Rattle.method.specs.declared.Found.{Found}
-use Rattle.method.specs.declared.Found.TheVariants.{Nowhere, At}
+use Rattle.std.specs.Prelude.{Option, None, Some}
 use Rattle.method.specs.Cast.{Cast, cells, first, between, sides_fit, settings_fit, bad_value, interior}
 use Rattle.method.specs.Walks.{sealed}
 use Rattle.method.specs.Answers.{passed, refused, verdict, refusal, fault}
@@ -78,38 +77,38 @@ value_asked {g} z vs e =
 
 -- ---- the single call's checks, of a set on a cast that passed the whole call's
 module _ (g : Sides) (ls : List ℕ) (vs : List ℤ) (t : Settings) (ps : List ℤ) (p : Past g ls t) (a : Asked) (q : SameSet a g ls vs t ps) where
-  sides_pass : fault (not (sides_fit a.cast.sides)) ≡ Nowhere
+  sides_pass : fault (not (sides_fit a.cast.sides)) ≡ None
   sides_pass = fault_no _ (ap (λ (k : Cast). sides_fit k.sides) q.cast ∙ p.sides)
 
-  lengths_pass : fault (not (lengths_fit a)) ≡ Nowhere
+  lengths_pass : fault (not (lengths_fit a)) ≡ None
   lengths_pass = fault_no _ q.roomy
 
-  settings_pass : fault (not (settings_fit a.settings)) ≡ Nowhere
+  settings_pass : fault (not (settings_fit a.settings)) ≡ None
   settings_pass = fault_no _ (ap settings_fit q.settings ∙ p.settings)
 
-  labels_pass : label_fault a.cast ≡ Nowhere
+  labels_pass : label_fault a.cast ≡ None
   labels_pass = ap (λ (k : Cast). label_fault k) q.cast ∙ p.labels
 
-  air_pass : fault (eqb (interior a.cast.sides a.cast.labels) 0) ≡ Nowhere
+  air_pass : fault (eqb (interior a.cast.sides a.cast.labels) 0) ≡ None
   unfolding fault
   air_pass = ap (λ (k : Cast). fault (eqb (interior k.sides k.labels) 0)) q.cast ∙ ap fault p.air
 
   -- check 5 fails: the set's answer is 5, its pressures untouched
-  pub five_fails : (place : ℕ) → bad_value g ls vs ≡ At place → verdict checks_before7 a ≡ refused 5 place
+  pub five_fails : (place : ℕ) → bad_value g ls vs ≡ Some place → verdict checks_before7 a ≡ refused 5 place
   unfolding checks_before7
   five_fails place e =
       passes_on _ _ a sides_pass ∙ passes_on _ _ a lengths_pass ∙ passes_on _ _ a settings_pass ∙ passes_on _ _ a labels_pass
       ∙ fails_at _ _ a place (ap (λ (k : Cast). value_fault k) q.cast ∙ e)
 
-  pub five_passes : bad_value g ls vs ≡ Nowhere → verdict checks_before7 a ≡ passed
+  pub five_passes : bad_value g ls vs ≡ None → verdict checks_before7 a ≡ passed
   unfolding checks_before7
   five_passes e = pass_all _ a (sides_pass, (lengths_pass, (settings_pass, (labels_pass, (ap (λ (k : Cast). value_fault k) q.cast ∙ e, (air_pass, tt))))))
 
-module _ (g : Sides) (ls : List ℕ) (vs : List ℤ) (t : Settings) (ps : List ℤ) (p : Past g ls t) (n : ℕ) (w : Found) (e : w ≡ first (bad_value_at ls vs) n) (en : n ≡ cells g) where
+module _ (g : Sides) (ls : List ℕ) (vs : List ℤ) (t : Settings) (ps : List ℤ) (p : Past g ls t) (n : ℕ) (w : Option ℕ) (e : w ≡ first (bad_value_at ls vs) n) (en : n ≡ cells g) where
   found : w ≡ bad_value g ls vs
   found = e ∙ ap (first (bad_value_at ls vs)) en ∙ sym (value_fault_lem g ls vs)
 
-  pub set_refused : (place : ℕ) (r : Answer) → w ≡ At place → r ≡ refusal 5 place → SetOf g ls vs t ps r ps
+  pub set_refused : (place : ℕ) (r : Answer) → w ≡ Some place → r ≡ refusal 5 place → SetOf g ls vs t ps r ps
   unfolding untouched
   set_refused place r h q = record {
     is = λ a z.
@@ -117,7 +116,7 @@ module _ (g : Sides) (ls : List ℕ) (vs : List ℤ) (t : Settings) (ps : List �
         (q ∙ sym (ap (λ (x : Solved). x.answer) s), sym z.pressures ∙ sym (ap (λ (x : Solved). x.pressures) s));
   }
 
-  pub set_run : (r : Answer) (qs : List ℤ) → w ≡ Nowhere → Ran (cast_of g ls vs) t ps r qs → SetOf g ls vs t ps r qs
+  pub set_run : (r : Answer) (qs : List ℤ) → w ≡ None → Ran (cast_of g ls vs) t ps r qs → SetOf g ls vs t ps r qs
   unfolding handed_back
   set_run r qs h ran = record {
     is = λ a z.
@@ -127,40 +126,3 @@ module _ (g : Sides) (ls : List ℕ) (vs : List ℤ) (t : Settings) (ps : List �
   }
 
 pub ruleset setting = (rules, ready_run, set_refused, set_run)
-
--- ---- an answer's fields, stored one after the other
-stored : (l : List ℤ) (a b c d e f g i : ℤ) → length l ≡ field_count
-    → set (set (set (set (set (set (set (set l 0 a) 1 b) 2 c) 3 d) 4 e) 5 f) 6 g) 7 i ≡ a ∷ b ∷ c ∷ d ∷ e ∷ f ∷ g ∷ i ∷ []
-stored [] a b c d e f g i h = absurd (omega arith)
-stored (u ∷ []) a b c d e f g i h = absurd (omega arith)
-stored (u ∷ v ∷ []) a b c d e f g i h = absurd (omega arith)
-stored (u ∷ v ∷ w ∷ []) a b c d e f g i h = absurd (omega arith)
-stored (u ∷ v ∷ w ∷ x ∷ []) a b c d e f g i h = absurd (omega arith)
-stored (u ∷ v ∷ w ∷ x ∷ y ∷ []) a b c d e f g i h = absurd (omega arith)
-stored (u ∷ v ∷ w ∷ x ∷ y ∷ z ∷ []) a b c d e f g i h = absurd (omega arith)
-stored (u ∷ v ∷ w ∷ x ∷ y ∷ z ∷ p ∷ []) a b c d e f g i h = absurd (omega arith)
-stored (u ∷ v ∷ w ∷ x ∷ y ∷ z ∷ p ∷ q ∷ []) a b c d e f g i h = refl
-stored (u ∷ v ∷ w ∷ x ∷ y ∷ z ∷ p ∷ q ∷ o ∷ l) a b c d e f g i h = absurd (omega arith)
-
-pub small : (n : ℕ) → n < 2 ^ 32 → to_z w64 n ≡ pos n
-small n h = to_z_pos w64 (omega arith)
-
-pub head_stored : (l : List ℤ) (a b c d : ℕ) → a < 2 ^ 32 → b < 2 ^ 32 → c < 2 ^ 32 → d < 2 ^ 32
-    → set (set (set (set l 0 (to_z w64 a)) 1 (to_z w64 b)) 2 (to_z w64 c)) 3 (to_z w64 d) ≡ four_at 0 (pos a) (pos b) (pos c) (pos d) l
-head_stored l a b c d p q r s = rw (small a p, small b q, small c r, small d s) refl
-
-pub tail_stored : (l : List ℤ) (a : ℕ) (v z : ℤ) (c d : ℕ) → v ≡ z → a < 2 ^ 32 → c < 2 ^ 32 → d < 2 ^ 32
-    → set (set (set (set l 4 (to_z w64 a)) 5 v) 6 (to_z w64 c)) 7 (to_z w64 d) ≡ four_at 4 (pos a) z (pos c) (pos d) l
-tail_stored l a v z c d e p r s = rw (small a p, e, small c r, small d s) refl
-
-pub wide_stored : (r z : ℤ) → SFits w64 r → SFits w32 z → r ≡ to_z w32 (of_z w32 z) → to_z w64 (of_z w64 r) ≡ z
-wide_stored r z f g e = to_z-of_z f ∙ e ∙ to_z-of_z g
-
-pub fields_stored : (l m n : List ℤ) (r : Answer) → length l ≡ field_count → SFits w32 r.worstvalue
-    → m ≡ four_at 0 (pos r.number) (pos r.place) (pos r.rounds) (pos r.worst) l
-    → n ≡ four_at 4 (pos r.worstcell) (to_z w32 (of_z w32 r.worstvalue)) (pos r.interior) (pos r.depth) m → n ≡ fields r
-unfolding fields
-fields_stored l m n r h s e f =
-    f ∙ ap (λ v. four_at 4 (pos r.worstcell) v (pos r.interior) (pos r.depth) m) (to_z-of_z s)
-    ∙ ap (four_at 4 (pos r.worstcell) r.worstvalue (pos r.interior) (pos r.depth)) e
-    ∙ stored l (pos r.number) (pos r.place) (pos r.rounds) (pos r.worst) (pos r.worstcell) r.worstvalue (pos r.interior) (pos r.depth) h

@@ -1,9 +1,8 @@
 -- One set on a prepared cast, and all sets one after the other: what they ask, and what they come to.
-use Rattle.std.specs.Prelude.{ℕ, ◌+◌, ◌*◌, ◌≤◌, ◌≡◌, true, false, List, ◌++◌, eqb, length, set, take, drop, ℤ}
+use Rattle.std.specs.Prelude.{ℕ, ◌+◌, ◌*◌, ◌≤◌, ◌≡◌, true, false, List, ◌++◌, eqb, length, set, take, drop, ℤ, None}
 use Rattle.method.specs.declared.Sides.{Sides}
 use Rattle.method.specs.declared.Settings.{Settings}
 use Rattle.method.specs.declared.Answer.{Answer}
-use Rattle.method.specs.declared.Found.TheVariants.{Nowhere}
 use Rattle.method.specs.Cast.{cells, sides_fit, settings_fit, bad_label, interior}
 use Rattle.method.specs.Walks.{sealed}
 use Rattle.method.specs.Rooms.{float_need}
@@ -14,18 +13,14 @@ use Rattle.rounds.specs.declared.Plan.{Plan}
 use Rattle.rounds.specs.Rounds.{cast_of}
 use Rattle.solve.specs.Work.{PlanOf, OfCast}
 
--- four elements from k on
-abbrev pub four_at : ℕ → ℤ → ℤ → ℤ → ℤ → List ℤ → List ℤ
-four_at k a b c d l = set (set (set (set l k a) (k + 1) b) (k + 2) c) (k + 3) d
-
 -- what the whole call's checks leave known of the cast and the settings
 pub record Past (g : Sides) (ls : List ℕ) (t : Settings) : Type 0 where
   pub sides : sides_fit g ≡ true
   pub labelled : length ls ≡ cells g
   pub settings : settings_fit t ≡ true
-  pub labels : bad_label g ls ≡ Nowhere
+  pub labels : bad_label g ls ≡ None
   pub air : eqb (interior g ls) 0 ≡ false
-  pub none_sealed : sealed g ls ≡ Nowhere
+  pub none_sealed : sealed g ls ≡ None
 
 -- the cast is prepared, once for all sets: labels and lists as `solve` prepares them, its air cells and depth, and a
 -- binary64 room of just the size needed

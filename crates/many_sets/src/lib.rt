@@ -2,58 +2,32 @@
 // pressures into their own stretches.
 #![tactic(auto)]
 
-ghost use Rattle.std.specs.Prelude.{◌≡◌, ◌+◌, ◌≤◌, pos, length};
+ghost use Rattle.std.specs.Prelude.{◌≡◌, ◌+◌, ◌≤◌, length};
 ghost use Rattle.method.specs.Cast.{cells};
 ghost use Rattle.method.specs.Many.{fields, field_count};
-ghost use Rattle.many_sets.specs.Sets.{four_at, CastReady, SetOf, Turned, SetsAsked, SetsOf};
+ghost use Rattle.many_sets.specs.Sets.{CastReady, SetOf, Turned, SetsAsked, SetsOf};
 
-use answers::{Measured, refusal};
+use answers::{Fault, Measured};
 use checks::cast::bad_value;
-use method::{Answer, Found, Settings, Sides};
+use method::{Answer, Settings, Sides};
 use rounds::Plan;
 
-// The first four fields of an answer.
-fn put_head(answers: &mut [i64], number: u32, place: u32, rounds: u32, worst: u32)
-    requires { length answers.old ≡ field_count }
-    ensures { answers.new ≡ four_at 0 (pos number) (pos place) (pos rounds) (pos worst) answers.old }
-{
-    answers[0] = number as i64;
-    answers[1] = place as i64;
-    answers[2] = rounds as i64;
-    answers[3] = worst as i64;
-}
-
-// The other four.
-fn put_tail(answers: &mut [i64], worstcell: u32, worstvalue: i32, interior: u32, depth: u32)
-    requires { length answers.old ≡ field_count }
-    ensures { answers.new ≡ four_at 4 (pos worstcell) worstvalue (pos interior) (pos depth) answers.old }
-{
-    let value = signed_numbers::wide(worstvalue);
-    answers[4] = worstcell as i64;
-    answers[5] = value;
-    answers[6] = interior as i64;
-    answers[7] = depth as i64;
-}
-
 // An answer's fields, in document 01's order, into their stretch.
+#[tactic(auto, unfolding(method::specs::Many::fields))]
 fn put_answer(answers: &mut [i64], answer: Answer)
     requires { length answers.old ≡ field_count }
     ensures { answers.new ≡ fields answer }
 {
-    put_head(
-        answers,
-        answer.number,
-        answer.place,
-        answer.rounds,
-        answer.worst,
-    );
-    put_tail(
-        answers,
-        answer.worstcell,
-        answer.worstvalue,
-        answer.interior,
-        answer.depth,
-    );
+    answers.copy_from_slice(&[
+        i64::from(answer.number),
+        i64::from(answer.place),
+        i64::from(answer.rounds),
+        i64::from(answer.worst),
+        i64::from(answer.worstcell),
+        i64::from(answer.worstvalue),
+        i64::from(answer.interior),
+        i64::from(answer.depth),
+    ]);
 }
 
 // One set: check 5, and then its rounds. The labels and lists stay as they are, and nothing is asked of what the
@@ -75,8 +49,8 @@ fn one_set(
     ensures { SetOf sides labels.now values.now settings pressures.old result pressures.new }
 {
     match bad_value(labels, values, labels.len()) {
-        Found::At(place) => refusal(5, place),
-        Found::Nowhere => solve::run(
+        Some(cell) => Answer::from(Fault::BadValue(cell)),
+        None => solve::run(
             sides, labels, values, settings, of, plan, bytes, words, floats, pressures,
         ),
     }
@@ -138,16 +112,12 @@ pub fn all_sets(
     requires sets_asked { SetsAsked sides values.now sets (length pressures.old) (length answers.old) }
     ensures { SetsOf sides labels.now values.now settings sets pressures.old answers.old pressures.new answers.new }
 {
-    let mut from = 0;
-    let mut at: usize = 0;
-    let mut s = 0;
-    while s < sets {
+    for s in 0..sets as usize {
+        let from = s * labels.len();
+        let at = s * 8;
         take_turn(
             from, at, sides, labels, values, settings, of, plan, bytes, words, floats, pressures,
             answers,
         );
-        from += labels.len();
-        at += 8;
-        s += 1;
     }
 }

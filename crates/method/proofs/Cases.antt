@@ -13,7 +13,7 @@ use Rattle.laws.proofs.Table.{Case, AllHold, holds_at}
 use Rattle.method.specs.declared.Sides.{Sides}
 use Rattle.method.specs.declared.Answer.{Answer}
 use Rattle.method.specs.declared.Order.TheVariants.{Big, Little}
-use Rattle.method.specs.declared.Tick.TheVariants.{Whole, Refused}
+use Rattle.std.specs.Prelude.{Some, None}
 use Rattle.method.specs.Cast.{Cast, residual, field}
 use Rattle.method.specs.Form.{value_read}
 use Rattle.method.specs.Transfers.{restricted, prolongated, value}
@@ -171,10 +171,10 @@ table =
     ∷ case (map (λ o. value_read o (0 ∷ 0 ∷ 2 ∷ 0 ∷ [])) (Big ∷ Little ∷ [])) (pos 512 ∷ pos 131072 ∷ [])
     ∷ case (restricted cube (replicate 64 0) (replicate 64 512f)) (replicate 8 (whole 343))
     ∷ case (map (value corner) (0 ∷ 1 ∷ 2 ∷ [])) (432f ∷ 432f ∷ 144f ∷ [])
-    ∷ case (map tick (½ ∷ -½ ∷ -0 ∷ 1½ ∷ 2½ ∷ [])) (Whole (pos 0) ∷ Whole (pos 0) ∷ Whole (pos 0) ∷ Whole (pos 2) ∷ Whole (pos 2) ∷ [])
-    ∷ case (map tick (2^41f ∷ 2^41+1f ∷ nan ∷ [])) (Whole (pos (2 ^ 41)) ∷ Refused ∷ Refused ∷ [])
+    ∷ case (map tick (½ ∷ -½ ∷ -0 ∷ 1½ ∷ 2½ ∷ [])) (Some (pos 0) ∷ Some (pos 0) ∷ Some (pos 0) ∷ Some (pos 2) ∷ Some (pos 2) ∷ [])
+    ∷ case (map tick (2^41f ∷ 2^41+1f ∷ nan ∷ [])) (Some (pos (2 ^ 41)) ∷ None ∷ None ∷ [])
     ∷ case (solving faulty).answer (answer 4 4 0 0 0 0)
-    ∷ case (map tick (-1½ ∷ -2½ ∷ below½ ∷ 2^41+½f ∷ -2^41-½f ∷ [])) (Whole (negsuc 1) ∷ Whole (negsuc 1) ∷ Whole (pos 0) ∷ Whole (pos (2 ^ 41)) ∷ Whole (negsuc (2 ^ 41 - 1)) ∷ [])
+    ∷ case (map tick (-1½ ∷ -2½ ∷ below½ ∷ 2^41+½f ∷ -2^41-½f ∷ [])) (Some (negsuc 1) ∷ Some (negsuc 1) ∷ Some (pos 0) ∷ Some (pos (2 ^ 41)) ∷ Some (negsuc (2 ^ 41 - 1)) ∷ [])
     ∷ case (solving twice) (ends 24 96 8 (answer_at 0 0 0 5 1 (negsuc 4) 2 1) (replicate 4 (pos 0)))
     ∷ case (program example) (text "answer=0\nplace=0\nrounds=1\nworst=0\nworstcell=1\nworstvalue=0\ninterior=1\ndepth=1\ncell=10\ncell=15\ncell=20\n")
     ∷ []
@@ -230,11 +230,11 @@ pub case_i : map (value corner) (0 ∷ 1 ∷ 2 ∷ []) ≡ 432f ∷ 432f ∷ 144
 unfolding table
 case_i = holds_at table all_hold 10
 
-pub case_j : map tick (½ ∷ -½ ∷ -0 ∷ 1½ ∷ 2½ ∷ []) ≡ Whole (pos 0) ∷ Whole (pos 0) ∷ Whole (pos 0) ∷ Whole (pos 2) ∷ Whole (pos 2) ∷ []
+pub case_j : map tick (½ ∷ -½ ∷ -0 ∷ 1½ ∷ 2½ ∷ []) ≡ Some (pos 0) ∷ Some (pos 0) ∷ Some (pos 0) ∷ Some (pos 2) ∷ Some (pos 2) ∷ []
 unfolding table
 case_j = holds_at table all_hold 11
 
-pub case_k : map tick (2^41f ∷ 2^41+1f ∷ nan ∷ []) ≡ Whole (pos (2 ^ 41)) ∷ Refused ∷ Refused ∷ []
+pub case_k : map tick (2^41f ∷ 2^41+1f ∷ nan ∷ []) ≡ Some (pos (2 ^ 41)) ∷ None ∷ None ∷ []
 unfolding table
 case_k = holds_at table all_hold 12
 
@@ -243,7 +243,7 @@ unfolding table
 case_l = holds_at table all_hold 13
 
 -- wish 3: what its sentence leads to besides case j
-pub case_ties : map tick (-1½ ∷ -2½ ∷ below½ ∷ 2^41+½f ∷ -2^41-½f ∷ []) ≡ Whole (negsuc 1) ∷ Whole (negsuc 1) ∷ Whole (pos 0) ∷ Whole (pos (2 ^ 41)) ∷ Whole (negsuc (2 ^ 41 - 1)) ∷ []
+pub case_ties : map tick (-1½ ∷ -2½ ∷ below½ ∷ 2^41+½f ∷ -2^41-½f ∷ []) ≡ Some (negsuc 1) ∷ Some (negsuc 1) ∷ Some (pos 0) ∷ Some (pos (2 ^ 41)) ∷ Some (negsuc (2 ^ 41 - 1)) ∷ []
 unfolding table
 case_ties = holds_at table all_hold 14
 

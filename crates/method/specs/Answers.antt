@@ -1,8 +1,6 @@
 -- Document 01, "What comes back". Definitions only.
-use Rattle.std.specs.Prelude.{ℕ, Bool, true, false, List, [], ◌∷◌, ℤ, pos}
+use Rattle.std.specs.Prelude.{ℕ, Bool, true, false, List, [], ◌∷◌, ℤ, pos, Option, None, Some}
 use Rattle.method.specs.declared.Answer.{Answer}
-use Rattle.method.specs.declared.Found.{Found}
-use Rattle.method.specs.declared.Found.TheVariants.{Nowhere, At}
 
 -- ---- "Every answer has: number, place, rounds, worst, interior, depth. Fields not named below are 0."
 -- Document 02, wish 5: worstcell and worstvalue after worst. "Both are 0 on every answer but 0."
@@ -33,15 +31,15 @@ done = refusal 0 0
 -- and place
 pub record Check (A : Type 0) : Type 0 where
   pub number : ℕ
-  pub fails : A → Found
+  pub fails : A → Option ℕ
 
-abbrev pub check : {A : Type 0} → ℕ → (A → Found) → Check A
+abbrev pub check : {A : Type 0} → ℕ → (A → Option ℕ) → Check A
 check num fails = record { number = num; fails = fails }
 
 -- a fault that has no place
-unfoldable pub fault : Bool → Found
-fault true = At 0
-fault false = Nowhere
+unfoldable pub fault : Bool → Option ℕ
+fault true = Some 0
+fault false = None
 
 pub data Verdict : Type 0 where
   passed : Verdict
@@ -49,7 +47,7 @@ pub data Verdict : Type 0 where
 
 unfoldable pub verdict : {A : Type 0} → List (Check A) → A → Verdict
 verdict [] a = passed
-verdict (c ∷ cs) a = elim (c.fails a) [ At place ↦ refused c.number place | Nowhere ↦ verdict cs a ]
+verdict (c ∷ cs) a = elim (c.fails a) [ Some place ↦ refused c.number place | None ↦ verdict cs a ]
 
 -- one name that opens this file
 unfoldable pub computing_answers : Unit {0}

@@ -1,12 +1,10 @@
 -- Document 01, "The cast". Definitions only.
-use Rattle.std.specs.Prelude.{ℕ, zero, suc, ◌+◌, ◌-◌, ◌*◌, ◌/◌, ◌%◌, max, Bool, ◌&&◌, cond, List, [], ◌∷◌, ltb, leb, eqb, get_or, ℤ, pos, nat_abs}
+use Rattle.std.specs.Prelude.{ℕ, zero, suc, ◌+◌, ◌-◌, ◌*◌, ◌/◌, ◌%◌, max, Bool, ◌&&◌, cond, List, [], ◌∷◌, ltb, leb, eqb, get_or, ℤ, pos, nat_abs, Option, None, Some}
 use Rattle.laws.specs.Loops.{up}
 use Rattle.laws.specs.Lists.{over}
 use Rattle.laws.specs.Whole.{◌+ᶻ◌, ◌-ᶻ◌, ◌*ᶻ◌}
 use Rattle.method.specs.declared.Sides.{Sides}
 use Rattle.method.specs.declared.Settings.{Settings}
-use Rattle.method.specs.declared.Found.{Found}
-use Rattle.method.specs.declared.Found.TheVariants.{Nowhere, At}
 
 -- A cast: its sides, and a label and a value for each cell.
 pub record Cast : Type 0 where
@@ -97,25 +95,25 @@ unfoldable pub interior : Sides → List ℕ → ℕ
 interior s ls = up (λ c i. cond (judged ls c) (i + 1) i) (cells s) 0
 
 -- The first of the cells 0 to n - 1 at which a test passes.
-unfoldable pub or_else : Found → Found → Found
-or_else Nowhere g = g
-or_else (At c) g = At c
+unfoldable pub or_else : Option ℕ → Option ℕ → Option ℕ
+or_else None g = g
+or_else (Some c) g = Some c
 
-unfoldable pub first : (ℕ → Bool) → ℕ → Found
-first test n = up (λ c f. or_else f (cond (test c) (At c) Nowhere)) n Nowhere
+unfoldable pub first : (ℕ → Bool) → ℕ → Option ℕ
+first test n = up (λ c f. or_else f (cond (test c) (Some c) None)) n None
 
 -- Document 02, wish 5: "the first air cell with the greatest absolute residual and that residual with its sign"
 unfoldable pub is_worst : Cast → List ℤ → ℕ → Bool
 is_worst k ps c = judged k.labels c && eqb (nat_abs (residual k.sides k.labels (field k.values) (field ps) c)) (worst k ps)
 
 unfoldable pub worst_cell : Cast → List ℤ → ℕ
-worst_cell k ps = elim (first (is_worst k ps) (cells k.sides)) [ At c ↦ c | Nowhere ↦ 0 ]
+worst_cell k ps = elim (first (is_worst k ps) (cells k.sides)) [ Some c ↦ c | None ↦ 0 ]
 
 unfoldable pub worst_value : Cast → List ℤ → ℤ
 worst_value k ps =
     elim (first (is_worst k ps) (cells k.sides)) [
-      | At c ↦ residual k.sides k.labels (field k.values) (field ps) c
-      | Nowhere ↦ pos 0
+      | Some c ↦ residual k.sides k.labels (field k.values) (field ps) c
+      | None ↦ pos 0
     ]
 
 -- ---- "Sides nx, ny, nz are 1 to 32." "Settings: tolerance 0 to 1,000,000; levels 1 to 6; round limit 0 to 1,000."
@@ -129,17 +127,17 @@ unfoldable pub settings_fit : Settings → Bool
 settings_fit t = between 0 1000000 t.tolerance && (between 1 6 t.levels && between 0 1000 t.rounds)
 
 -- a label above 2; a value out of its label's range
-unfoldable pub bad_label : Sides → List ℕ → Found
+unfoldable pub bad_label : Sides → List ℕ → Option ℕ
 bad_label s ls = first (λ c. ltb 2 (label_at ls c)) (cells s)
 
-unfoldable pub bad_value : Sides → List ℕ → List ℤ → Found
+unfoldable pub bad_value : Sides → List ℕ → List ℤ → Option ℕ
 bad_value s ls vs = first (λ c. ltb (widest (label_at ls c)) (nat_abs (field vs c))) (cells s)
 
 -- ---- checks 4 and 5, of a cast
-abbrev pub label_fault : Cast → Found
+abbrev pub label_fault : Cast → Option ℕ
 label_fault k = bad_label k.sides k.labels
 
-abbrev pub value_fault : Cast → Found
+abbrev pub value_fault : Cast → Option ℕ
 value_fault k = bad_value k.sides k.labels k.values
 
 -- one name that opens this file

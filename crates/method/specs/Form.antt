@@ -1,15 +1,12 @@
 -- Document 01, "The session form": its lines and its body. Definitions only.
-use Rattle.std.specs.Prelude.{ℕ, zero, suc, ◌+◌, ◌-◌, ◌*◌, ◌/◌, ◌%◌, ◌^◌, true, false, cond, ltb, eqb, get_or, length, take, drop, ℤ, pos, negsuc}
+use Rattle.std.specs.Prelude.{ℕ, zero, suc, ◌+◌, ◌-◌, ◌*◌, ◌/◌, ◌%◌, ◌^◌, true, false, cond, ltb, eqb, get_or, length, take, drop, ℤ, pos, negsuc, Option, None, Some}
 use mathlib.Core.List.{List, [], ◌∷◌, ◌++◌, reverse, flat_map}
-use Rattle.std.proofs.Math.Option.{Option, none, some}
 use Rattle.laws.specs.Lists.{tab}
 use Rattle.laws.specs.Text.{text}
 use Rattle.method.specs.declared.Sides.{Sides}
 use Rattle.method.specs.declared.Settings.{Settings}
 use Rattle.method.specs.declared.Order.{Order}
 use Rattle.method.specs.declared.Order.TheVariants.{Big, Little}
-use Rattle.method.specs.declared.Found.{Found}
-use Rattle.method.specs.declared.Found.TheVariants.{Nowhere, At}
 use Rattle.method.specs.Cast.{Cast, cells}
 use Rattle.method.specs.Numbers.{decimal, digits, is_number, value_of}
 
@@ -21,24 +18,24 @@ pub data Line : Type 0 where
 
 -- the bytes after those that are asked for
 unfoldable pub after : List ℕ → List ℕ → Option (List ℕ)
-after [] bs = some bs
-after (k ∷ ks) [] = none
-after (k ∷ ks) (b ∷ bs) = elim (eqb b k) [ true ↦ after ks bs | false ↦ none ]
+after [] bs = Some bs
+after (k ∷ ks) [] = None
+after (k ∷ ks) (b ∷ bs) = elim (eqb b k) [ true ↦ after ks bs | false ↦ None ]
 
 unfoldable pub closed : List ℕ → Option (List ℕ) → Line
-closed ds none = bad
-closed ds (some rest) = cond (is_number ds) (good (value_of 0 ds) rest) bad
+closed ds None = bad
+closed ds (Some rest) = cond (is_number ds) (good (value_of 0 ds) rest) bad
 
 unfoldable pub number_line : List ℕ → List ℕ → Line
 number_line key bs =
-    elim (after key bs) [ none ↦ bad | some cs ↦ closed (digits cs) (after (text "\n") (drop (length (digits cs)) cs)) ]
+    elim (after key bs) [ None ↦ bad | Some cs ↦ closed (digits cs) (after (text "\n") (drop (length (digits cs)) cs)) ]
 
 -- the value of the order's line is 0 for `big`, 1 for `little`
 unfoldable pub order_line : List ℕ → Line
 order_line bs =
     elim (after (text "order=big\n") bs) [
-      | some rest ↦ good 0 rest
-      | none ↦ elim (after (text "order=little\n") bs) [ some rest ↦ good 1 rest | none ↦ bad ]
+      | Some rest ↦ good 0 rest
+      | None ↦ elim (after (text "order=little\n") bs) [ Some rest ↦ good 1 rest | None ↦ bad ]
     ]
 
 unfoldable pub lines : List (List ℕ → Line)
@@ -88,11 +85,11 @@ header_of (right vs rest) = record {
 unfoldable pub header : List ℕ → Header
 header bs = header_of (read_lines 1 lines bs)
 
-unfoldable pub wrong_line : Lines → Found
-wrong_line (wrong k) = At k
-wrong_line (right vs rest) = Nowhere
+unfoldable pub wrong_line : Lines → Option ℕ
+wrong_line (wrong k) = Some k
+wrong_line (right vs rest) = None
 
-unfoldable pub bad_line : List ℕ → Found
+unfoldable pub bad_line : List ℕ → Option ℕ
 bad_line bs = wrong_line (read_lines 1 lines bs)
 
 -- ---- "one four-byte two's complement value per cell in the named order"

@@ -1,16 +1,13 @@
 -- Document 02, wish 2, "The old session form, in and out": the form, its reading and its writing, built of document
 -- 01's words. Definitions only.
-use Rattle.std.specs.Prelude.{ℕ, suc, ◌+◌, ◌-◌, ◌*◌, ◌/◌, ◌%◌, ◌^◌, Bool, not, ◌&&◌, cond, ltb, leb, eqb, get_or, length, take, drop, ℤ, pos, negsuc, nat_abs}
+use Rattle.std.specs.Prelude.{ℕ, suc, ◌+◌, ◌-◌, ◌*◌, ◌/◌, ◌%◌, ◌^◌, Bool, not, ◌&&◌, cond, ltb, leb, eqb, get_or, length, take, drop, ℤ, pos, negsuc, nat_abs, Option, None, Some}
 use mathlib.Core.List.{List, [], ◌∷◌, ◌++◌, flat_map}
-use Rattle.std.proofs.Math.Option.{none, some}
 use Rattle.laws.specs.Lists.{tab}
 use Rattle.laws.specs.Text.{text}
 use Rattle.laws.specs.Whole.{◌*ᶻ◌, neg}
 use Rattle.method.specs.declared.Sides.{Sides}
 use Rattle.method.specs.declared.Settings.{Settings}
 use Rattle.method.specs.declared.Answer.{Answer}
-use Rattle.method.specs.declared.Found.{Found}
-use Rattle.method.specs.declared.Found.TheVariants.{Nowhere, At}
 use Rattle.method.specs.Cast.{Cast, cells, field, first, between, sides_fit, settings_fit, label_fault, value_fault}
 use Rattle.method.specs.Numbers.{decimal, digits}
 use Rattle.method.specs.Form.{Line, bad, after, closed, Lines, wrong, right, read_lines, most_first, line}
@@ -22,7 +19,7 @@ use Rattle.method.specs.Writing.{Written}
 -- spelled as in 01."
 unfoldable pub number_to : List ℕ → List ℕ → List ℕ → Line
 number_to end key bs =
-    elim (after key bs) [ none ↦ bad | some cs ↦ closed (digits cs) (after end (drop (length (digits cs)) cs)) ]
+    elim (after key bs) [ None ↦ bad | Some cs ↦ closed (digits cs) (after end (drop (length (digits cs)) cs)) ]
 
 unfoldable pub old_parts : List (List ℕ → Line)
 old_parts =
@@ -46,11 +43,11 @@ old_header_of (right vs rest) = record { sides = record { nx = get_or vs 0 0; ny
 unfoldable pub old_header : List ℕ → OldHeader
 old_header bs = old_header_of (read_lines 1 old_parts bs)
 
-unfoldable pub old_wrong_line : Lines → Found
-old_wrong_line (wrong k) = At (line_of_part k)
-old_wrong_line (right vs rest) = Nowhere
+unfoldable pub old_wrong_line : Lines → Option ℕ
+old_wrong_line (wrong k) = Some (line_of_part k)
+old_wrong_line (right vs rest) = None
 
-unfoldable pub old_bad_line : List ℕ → Found
+unfoldable pub old_bad_line : List ℕ → Option ℕ
 old_bad_line bs = old_wrong_line (read_lines 1 old_parts bs)
 
 -- ---- "then 16-bit signed values, always most significant byte first, then labels"
@@ -181,7 +178,7 @@ fits16 (negsuc n) = ltb n (2 ^ 15)
 unfoldable pub expressible : ℕ → ℤ → Bool
 expressible u z = eqb (nat_abs z % u) 0 && fits16 (stored u z)
 
-unfoldable pub not_expressible : ℕ → Cast → Found
+unfoldable pub not_expressible : ℕ → Cast → Option ℕ
 not_expressible u k = first (λ c. not (expressible u (field k.values c))) (cells k.sides)
 
 -- "writing checks 1, 3 (unit), 2, 4, 5, then new 13"

@@ -1,5 +1,5 @@
 -- Document 01, "The rounds". Definitions only.
-use Rattle.std.specs.Prelude.{ℕ, zero, suc, ◌-◌, Bool, true, false, ◌&&◌, cond, List, ℤ, Float}
+use Rattle.std.specs.Prelude.{ℕ, zero, suc, ◌-◌, Bool, true, false, ◌&&◌, cond, List, ℤ, Float, Result, Ok, Err}
 use Rattle.std.specs.Float.Ieee as Ieee
 use Rattle.std.specs.Float.{nan, inf, fin}
 use Rattle.laws.specs.Loops.{up}
@@ -9,8 +9,6 @@ use Rattle.laws.specs.Binary64.{◌⊕◌, ◌⊖◌, ◌⊗◌, ◌⊘◌, +0, 
 use Rattle.method.specs.declared.Sides.{Sides}
 use Rattle.method.specs.declared.Settings.{Settings}
 use Rattle.method.specs.declared.Scalars.{Scalars}
-use Rattle.method.specs.declared.Step.{Step}
-use Rattle.method.specs.declared.Step.TheVariants.{Go, Stalled}
 use Rattle.method.specs.Cast.{Cast, cells, is_air, is_opening, around, field, level, worst}
 use Rattle.method.specs.Transfers.{value, in_air}
 use Rattle.method.specs.Cycle.{applied, zeros, cycle}
@@ -54,9 +52,9 @@ unfoldable pub usable : Float → Bool
 usable a = finite a && Ieee.lt +0 a
 
 -- "The step hands back either alpha or the scalar that stalled it."
-unfoldable pub step : Scalars → Step
+unfoldable pub step : Scalars → Result Float Float
 step q =
-    cond (usable q.rho) (cond (usable q.sigma) (cond (finite q.alpha) (Go q.alpha) (Stalled q.alpha)) (Stalled q.sigma)) (Stalled q.rho)
+    cond (usable q.rho) (cond (usable q.sigma) (cond (finite q.alpha) (Ok q.alpha) (Err q.alpha)) (Err q.sigma)) (Err q.rho)
 
 -- what a round ends in: the next state, or a stall
 pub data Turn : Type 0 where
@@ -71,9 +69,9 @@ module _ (s : Sides) (ls : List ℕ) (below : ℕ) (st : State) where
       record { rho = new; sigma = sigma; alpha = new ⊘ sigma; beta = beta_of st.rounds new st.rho }
 
   -- "Then x + alpha·p, r - alpha·A p, one round more"
-  unfoldable pub moved : List Float → Float → Step → Turn
-  moved p new (Stalled a) = stalled
-  moved p new (Go alpha) = turned record {
+  unfoldable pub moved : List Float → Float → Result Float Float → Turn
+  moved p new (Err a) = stalled
+  moved p new (Ok alpha) = turned record {
     rounds = suc st.rounds;
     x = in_air s ls (λ c. value st.x c ⊕ alpha ⊗ value p c);
     r = in_air s ls (λ c. value st.r c ⊖ alpha ⊗ applied s ls p c);

@@ -1,11 +1,9 @@
 -- Document 01, "The rounds": whole ticks, and the test. Definitions only.
-use Rattle.std.specs.Prelude.{ℕ, ◌+◌, ◌*◌, ◌/◌, ◌%◌, ◌^◌, Bool, true, false, not, ◌&&◌, cond, List, map, eqb, ltb, leb, ℤ, pos, neg_ℤ, Float}
+use Rattle.std.specs.Prelude.{ℕ, ◌+◌, ◌*◌, ◌/◌, ◌%◌, ◌^◌, Bool, true, false, not, ◌&&◌, cond, List, map, eqb, ltb, leb, ℤ, pos, neg_ℤ, Float, Option, Some, None}
 use Rattle.std.specs.Float.Ieee as Ieee
 use Rattle.std.specs.Float.{nan, inf, fin}
 use Rattle.laws.specs.Lists.{tab, any}
 use Rattle.method.specs.declared.Settings.{Settings}
-use Rattle.method.specs.declared.Tick.{Tick}
-use Rattle.method.specs.declared.Tick.TheVariants.{Whole, Refused}
 use Rattle.method.specs.Cast.{Cast, cells, is_air, level, worst}
 use Rattle.method.specs.Transfers.{value}
 
@@ -26,25 +24,25 @@ signed true m = neg_ℤ (pos m)
 signed false m = pos m
 
 -- "finite, within ±2^41 after rounding"
-unfoldable pub kept : Bool → ℕ → Tick
-kept s m = cond (leb m furthest) (Whole (signed s m)) Refused
+unfoldable pub kept : Bool → ℕ → Option ℤ
+kept s m = cond (leb m furthest) (Some (signed s m)) None
 
-unfoldable pub tick : Float → Tick
-tick nan = Refused
-tick (inf s) = Refused
+unfoldable pub tick : Float → Option ℤ
+tick nan = None
+tick (inf s) = None
 tick (fin s m e) = kept s (nearest (m * Ieee.up e) (Ieee.down e))
 
 -- "opening levels, 0 at walls, whole ticks in air"
-unfoldable pub ticks : Cast → List Float → List Tick
-ticks k x = tab (cells k.sides) (λ c. cond (is_air k.labels c) (tick (value x c)) (Whole (level k.labels k.values c)))
+unfoldable pub ticks : Cast → List Float → List (Option ℤ)
+ticks k x = tab (cells k.sides) (λ c. cond (is_air k.labels c) (tick (value x c)) (Some (level k.labels k.values c)))
 
-unfoldable pub is_refused : Tick → Bool
-is_refused (Whole z) = false
-is_refused Refused = true
+unfoldable pub is_refused : Option ℤ → Bool
+is_refused (Some z) = false
+is_refused None = true
 
-unfoldable pub whole_of : Tick → ℤ
-whole_of (Whole z) = z
-whole_of Refused = pos 0
+unfoldable pub whole_of : Option ℤ → ℤ
+whole_of (Some z) = z
+whole_of None = pos 0
 
 unfoldable pub rounded : Cast → List Float → List ℤ
 rounded k x = map whole_of (ticks k x)

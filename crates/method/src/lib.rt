@@ -40,20 +40,6 @@ pub struct Answer {
     pub depth: u32,
 }
 
-// The first place of what is looked for.
-#[derive(Clone, Copy)]
-pub enum Found {
-    Nowhere,
-    At(u32),
-}
-
-// A binary64 as a whole tick.
-#[derive(Clone, Copy)]
-pub enum Tick {
-    Whole(i64),
-    Refused,
-}
-
 // The four scalars of a round.
 #[derive(Clone, Copy)]
 pub struct Scalars {
@@ -61,11 +47,4 @@ pub struct Scalars {
     pub sigma: f64,
     pub alpha: f64,
     pub beta: f64,
-}
-
-// What a step hands back: alpha, or the scalar that stalled it.
-#[derive(Clone, Copy)]
-pub enum Step {
-    Go(f64),
-    Stalled(f64),
 }

@@ -6,14 +6,13 @@ ghost use Rattle.method.specs.OldForm.{unit_fits};
 ghost use Rattle.old_header.specs.OldLines.{SizeOf, OldHeaderOf};
 
 use method::Sides;
-use session_header::LineRead;
 use session_header::line::{number_to, rest};
 
-// The line of the size, read: not of the form, or the sides and how many bytes it took.
+// The line of the size, where it is of the form: the sides and how many bytes it took.
 #[derive(Clone, Copy)]
-enum SizeRead {
-    NotOfForm,
-    Named(Sides, usize),
+struct Size {
+    sides: Sides,
+    taken: usize,
 }
 
 // What the two lines name, and where the body starts.
@@ -24,47 +23,38 @@ pub struct OldHeader {
     pub start: usize,
 }
 
-// The two lines, read: the number of the first that is not of the form, or what they name.
-#[derive(Clone, Copy)]
-pub enum OldHeaderRead {
-    Wrong(u32),
-    Named(OldHeader),
-}
-
 // The line of the size: three numbers, with an x between them.
-fn size_line(bytes: &[u8]) -> SizeRead
+fn size_line(bytes: &[u8]) -> Option<Size>
     ensures { SizeOf bytes.now result }
 {
-    let LineRead::Value(nx, i) = number_to(bytes, b"size=", b'x') else {
-        return SizeRead::NotOfForm;
+    let nx = number_to(bytes, b"size=", b'x')?;
+    let second = rest(bytes, nx.taken);
+    let ny = number_to(second, b"", b'x')?;
+    let third = rest(second, ny.taken);
+    let nz = number_to(third, b"", b'\n')?;
+    let sides = Sides {
+        nx: nx.value,
+        ny: ny.value,
+        nz: nz.value,
     };
-    let second = rest(bytes, i);
-    let LineRead::Value(ny, j) = number_to(second, b"", b'x') else {
-        return SizeRead::NotOfForm;
-    };
-    let third = rest(second, j);
-    let LineRead::Value(nz, k) = number_to(third, b"", b'\n') else {
-        return SizeRead::NotOfForm;
-    };
-    SizeRead::Named(Sides { nx, ny, nz }, i + j + k)
+    Some(Size {
+        sides,
+        taken: nx.taken + ny.taken + nz.taken,
+    })
 }
 
-// The two lines, from the front of the bytes.
-pub fn read_old_header(bytes: &[u8]) -> OldHeaderRead
+// The two lines, from the front of the bytes, or the number of the first that is not of the form.
+pub fn read_old_header(bytes: &[u8]) -> Result<OldHeader, u32>
     ensures { OldHeaderOf bytes.now result }
 {
-    let SizeRead::Named(sides, i) = size_line(bytes) else {
-        return OldHeaderRead::Wrong(1);
-    };
-    let second = rest(bytes, i);
-    match number_to(second, b"unit=", b'\n') {
-        LineRead::NotOfForm => OldHeaderRead::Wrong(2),
-        LineRead::Value(unit, j) => OldHeaderRead::Named(OldHeader {
-            sides,
-            unit,
-            start: i + j,
-        }),
-    }
+    let size = size_line(bytes).ok_or(1u32)?;
+    let second = rest(bytes, size.taken);
+    let unit = number_to(second, b"unit=", b'\n').ok_or(2u32)?;
+    Ok(OldHeader {
+        sides: size.sides,
+        unit: unit.value,
+        start: size.taken + unit.taken,
+    })
 }
 
 // Whether a unit is 1 to 1,000.

@@ -1,17 +1,11 @@
 -- Laws of the parts of an old session that are put: lines, values, labels; and of their lengths. Assumes nothing.
-use mathlib.Core.Path.{◌≡◌, refl, sym, ap, ◌∙◌}
-use mathlib.Core.List.{List, [], ◌∷◌, ◌++◌, append_assoc, flat_map}
-use Prim.Native.Nat.{ℕ, ◌+◌, ◌*◌, ◌^◌, ◌≤◌, ◌<◌}
-use native.Mathlib.Numerals.{add-one}
+use mathlib.Core.Path.{◌≡◌, sym, ap, ◌∙◌}
+use mathlib.Core.List.{List, [], ◌++◌, append_assoc, flat_map}
+use Prim.Native.Nat.{ℕ, ◌+◌, ◌*◌, ◌≤◌}
 use native.Mathlib.Omega.{arith}
 use borrow.Author.Rules.{rules}
-use lib.ListN.{length, get_or, take, length-append}
-use lib.Seq.{take-suc, take_all, length-take-le}
-use lib.IntN.{ℤ, pos}
-use lib.Signed.{mag}
-use mir.Syntax.{w32}
-use mir.Val.{to_z, of_z}
-use mir.Facts.{to_z-of_z}
+use lib.ListN.{length, length-append}
+use lib.IntN.{ℤ}
 use Rattle.laws.specs.Text.{text}
 use Rattle.method.specs.declared.Sides.{Sides}
 use Rattle.method.specs.Numbers.{decimal}
@@ -19,8 +13,7 @@ use Rattle.method.specs.Form.{line}
 use Rattle.method.specs.OldForm.{old_value_read, old_value_written, size_word, old_header_written, old_written}
 use Rattle.theory.proofs.OldBytes.{length_two, length_rows}
 use Rattle.text_out.specs.Puts.{Put, DigitsOf}
-use Rattle.text_out.proofs.PutLaws.{put_length, put_then, put_room, front_room, all_put, first_room, second_room, third_room}
-use Rattle.session_bytes.proofs.PartLaws.{flat_append, flat_one}
+use Rattle.text_out.proofs.PutLaws.{put_then, put_room, front_room, all_put, first_room, second_room, third_room}
 use Rattle.old_put.specs.OldPuts.{OldHeaderLength}
 
 -- ---- the line of the size: three numbers, each with what stands before and after it
@@ -79,38 +72,9 @@ module _ (s : Sides) (n : ℕ) (w : List ℕ) (i : ℕ) where
 
 pub ruleset both = (rules, lines_first, lines_second, lines_put)
 
--- ---- values: i of them are put
+-- ---- values
 pub values_length : (u : ℕ) (vs : List ℤ) → length (flat_map (old_value_written u) vs) ≡ 2 * length vs
 values_length u vs = length_rows 2 (old_value_read u) (old_value_written u) (length_two u) vs
-
-pub record Valued (u : ℕ) (vs : List ℤ) (old : List ℕ) (at i : ℕ) (new : List ℕ) (r : ℕ) : Type 0 where
-  pub puts : Put (flat_map (old_value_written u) (take i vs)) old at new r
-
-pub valued_none : (u : ℕ) (vs : List ℤ) (old : List ℕ) (at : ℕ) → Valued u vs old at 0 old at
-unfolding flat_map
-valued_none u vs old at = record { puts = record { is = refl; next = omega arith } }
-
-pub valued_more : (u : ℕ) (vs : List ℤ) (old new next : List ℕ) (at i r q : ℕ) → i < length vs → Valued u vs old at i new r
-    → mag (get_or vs i (pos 0)) < 2 ^ 31 → Put (old_value_written u (to_z w32 (of_z w32 (get_or vs i (pos 0))))) new r next q
-    → Valued u vs old at (i + 1) next q
-valued_more u vs old new next at i r q l h m p =
-    let e : flat_map (old_value_written u) (take (i + 1) vs) ≡ flat_map (old_value_written u) (take i vs) ++ old_value_written u (get_or vs i (pos 0)) =
-    ap (λ k. flat_map (old_value_written u) (take k vs)) (add-one i) ∙ ap (flat_map (old_value_written u)) (take-suc vs i (pos 0) l)
-    ∙ flat_append (old_value_written u) (take i vs) (get_or vs i (pos 0) ∷ []) ∙ ap (λ x. flat_map (old_value_written u) (take i vs) ++ x) (flat_one (old_value_written u) (get_or vs i (pos 0))) in
-    let f : to_z w32 (of_z w32 (get_or vs i (pos 0))) ≡ get_or vs i (pos 0) = to_z-of_z {w = w32} (record { sfits = m }) in
-    record { puts = rw e (put_then h.puts (rw f at p)) }
-
-pub valued_all : (u : ℕ) (vs : List ℤ) (old new : List ℕ) (at i r : ℕ) → length vs ≤ i → Valued u vs old at i new r → Put (flat_map (old_value_written u) vs) old at new r
-valued_all u vs old new at i r l h = rw (take_all i vs l) at h.puts
-
-pub valued_room : (u : ℕ) (vs : List ℤ) (old new : List ℕ) (at i r : ℕ) → i < length vs → at + 2 * length vs ≤ length old → Valued u vs old at i new r → r + 2 ≤ length new
-valued_room u vs old new at i r l m h =
-    omega (arith, h.puts.next, put_length h.puts, values_length u (take i vs), length-take-le i vs (omega arith))
-
-pub valued_length : (u : ℕ) (vs : List ℤ) (old new : List ℕ) (at i r : ℕ) → Valued u vs old at i new r → length new ≡ length old
-valued_length u vs old new at i r h = put_length h.puts
-
-pub ruleset valuing = (rules, valued_none, valued_more, valued_all, valued_room, valued_length)
 
 -- ---- a whole session
 module _ (s : Sides) (u : ℕ) (ls : List ℕ) (vs : List ℤ) (a : List ℕ) where

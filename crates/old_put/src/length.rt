@@ -8,9 +8,9 @@ use text_out::decimal::digits_of;
 pub fn old_header_length(sides: Sides, unit: u32) -> usize
     ensures { OldHeaderLength sides unit result }
 {
-    let x = digits_of(sides.nx as u64);
-    let y = digits_of(sides.ny as u64);
-    let z = digits_of(sides.nz as u64);
-    let u = digits_of(unit as u64);
+    let x = digits_of(u64::from(sides.nx));
+    let y = digits_of(u64::from(sides.ny));
+    let z = digits_of(u64::from(sides.nz));
+    let u = digits_of(u64::from(unit));
     x + y + z + u + 14
 }

@@ -4,33 +4,33 @@
 pub mod length;
 mod values;
 
-ghost use Rattle.std.specs.Prelude.{◌+◌, ◌≤◌, ◌<◌, length as ListN·length};
+ghost use Rattle.std.specs.Prelude.{◌≤◌, ◌<◌, length as ListN·length};
 ghost use Rattle.laws.specs.Text.{text};
 ghost use Rattle.method.specs.Form.{line};
 ghost use Rattle.method.specs.OldForm.{size_word, old_header_written, old_written};
-ghost use Rattle.text_out.specs.Puts.{Put};
+ghost use Rattle.text_out.specs.Puts.{Put, Room, Puts};
 
 use method::Sides;
-use text_out::{put_bytes, put_line, put_number};
-use values::put_values;
+use text_out::Sink;
+use values::InUnits;
 
 // Puts the line of the size.
-fn put_size(output: &mut [u8], at: usize, sides: Sides) -> usize
-    requires { at + ListN·length (line (text "size=") (size_word sides)) ≤ ListN·length output.old }
-    ensures { Put (line (text "size=") (size_word sides)) output.old at output.new result }
+fn put_size(sink: &mut Sink<'_>, sides: Sides)
+    requires { Room (ListN·length (line (text "size=") (size_word sides))) sink.old }
+    ensures { Puts (line (text "size=") (size_word sides)) sink.old sink.new }
 {
-    let second = put_number(output, at, b"size=", sides.nx as u64, b"x");
-    let third = put_number(output, second, b"", sides.ny as u64, b"x");
-    put_number(output, third, b"", sides.nz as u64, b"\n")
+    sink.put_number(b"size=", u64::from(sides.nx), b"x");
+    sink.put_number(b"", u64::from(sides.ny), b"x");
+    sink.put_number(b"", u64::from(sides.nz), b"\n");
 }
 
 // Puts the two lines.
-fn put_lines(output: &mut [u8], at: usize, sides: Sides, unit: u32) -> usize
-    requires { at + ListN·length (old_header_written sides unit) ≤ ListN·length output.old }
-    ensures { Put (old_header_written sides unit) output.old at output.new result }
+fn put_lines(sink: &mut Sink<'_>, sides: Sides, unit: u32)
+    requires { Room (ListN·length (old_header_written sides unit)) sink.old }
+    ensures { Puts (old_header_written sides unit) sink.old sink.new }
 {
-    let second = put_size(output, at, sides);
-    put_line(output, second, b"unit=", unit as u64)
+    put_size(sink, sides);
+    sink.put_line(b"unit=", u64::from(unit));
 }
 
 // Puts a whole old session at the front, and answers how many bytes it has.
@@ -44,7 +44,12 @@ pub fn put_old_session(
     requires { (0 < unit) × (ListN·length (old_written (record { sides = sides; labels = labels.now; values = values.now }) unit) ≤ ListN·length output.old) }
     ensures { Put (old_written (record { sides = sides; labels = labels.now; values = values.now }) unit) output.old 0 output.new result }
 {
-    let body = put_lines(output, 0, sides, unit);
-    let tail = put_values(output, body, unit, values);
-    put_bytes(output, tail, labels)
+    let mut sink = Sink {
+        bytes: output,
+        at: 0,
+    };
+    put_lines(&mut sink, sides, unit);
+    sink.put_each(&InUnits { unit }, values);
+    sink.put(labels);
+    sink.at
 }

@@ -20,11 +20,12 @@ use Rattle.method.specs.OldForm.{OldReading, old_header, old_header_of, old_labe
 use Rattle.theory.specs.Sides.{Fit}
 use Rattle.theory.proofs.Sides.{fit}
 use Rattle.theory.proofs.Verdicts.{verdict_agree}
+use Rattle.std.specs.Prelude.{Result, Ok, Err}
+use Rattle.answers.specs.Faults.{number_of, place_of}
+use Rattle.answers.specs.declared.Fault.{Fault}
 use Rattle.old_header.specs.declared.OldHeader.{OldHeader}
 use Rattle.old_read.specs.OldBody.{old_value_in}
 use Rattle.old_read.specs.OldReads.{old_lent, OldReadOf, old_asked, old_verdict_of, OldReadyIf, OldJudgedOf, Takes, TakesIf, old_taken_of}
-use Rattle.old_read.specs.declared.Judged.{Judged}
-use Rattle.old_read.specs.declared.Judged.TheVariants.{Refused, Passed}
 use Rattle.old_read.specs.declared.Taken.{Taken}
 
 pub same_verdict : (t : Settings) (bytes : List ℕ) (old : List ℤ) → verdict old_reader_checks (old_lent t bytes old) ≡ verdict old_reader_checks (old_asked t bytes (length old))
@@ -41,32 +42,32 @@ unfolding old_reading
 reading_passed q e = rw (old_reading, e)
 
 -- ---- what is taken of it
-pub taken_refused : (j : Judged) (num place : ℕ) (a : Answer) → j ≡ Refused num place → a ≡ refusal num place
+pub taken_refused : (j : Result OldHeader Fault) (d : Fault) (a : Answer) → j ≡ Err d → a ≡ refusal (number_of d) (place_of d)
     → record { session = record { answer = a; sides = record { nx = 0; ny = 0; nz = 0 }; unit = 0; start = 0 }; body = 0; count = 0 } ≡ old_taken_of j
 unfolding old_taken_of
-taken_refused j num place a e f = rw (e, f)
+taken_refused j d a e f = rw (e, f)
 
-pub taken_passed : (j : Judged) (h : OldHeader) (a : Answer) (n : ℕ) → j ≡ Passed h → a ≡ refusal 0 0 → n ≡ cells h.sides
+pub taken_passed : (j : Result OldHeader Fault) (h : OldHeader) (a : Answer) (n : ℕ) → j ≡ Ok h → a ≡ refusal 0 0 → n ≡ cells h.sides
     → record { session = record { answer = a; sides = h.sides; unit = h.unit; start = h.start + 2 * n }; body = h.start; count = n } ≡ old_taken_of j
 unfolding old_taken_of done
 taken_passed j h a n e f c = rw (e, f, c)
 
-passed_takes : (j : Judged) (h : OldHeader) → TakesIf j → j ≡ Passed h → Takes h
+passed_takes : (j : Result OldHeader Fault) (h : OldHeader) → TakesIf j → j ≡ Ok h → Takes h
 unfolding TakesIf
 passed_takes j h z e = rw e at z
 
-pub passed_fit : (j : Judged) (h : OldHeader) → TakesIf j → j ≡ Passed h → Fit h.sides
+pub passed_fit : (j : Result OldHeader Fault) (h : OldHeader) → TakesIf j → j ≡ Ok h → Fit h.sides
 passed_fit j h z e = (passed_takes j h z e).fit
 
-pub passed_near : (j : Judged) (h : OldHeader) (n : ℕ) → TakesIf j → j ≡ Passed h → n ≡ cells h.sides → Fits w64 (h.start + 2 * n)
+pub passed_near : (j : Result OldHeader Fault) (h : OldHeader) (n : ℕ) → TakesIf j → j ≡ Ok h → n ≡ cells h.sides → Fits w64 (h.start + 2 * n)
 passed_near j h n z e c = record { fits = omega (arith, (passed_takes j h z e).near) }
 
 pub ruleset taking = (rules, taken_refused, taken_passed, passed_fit, passed_near)
 
-pub takes_if : (t : Settings) (bytes : List ℕ) (room : ℕ) (j : Judged) → OldJudgedOf t bytes room j → length bytes < 2 ^ 64 → TakesIf j
+pub takes_if : (t : Settings) (bytes : List ℕ) (room : ℕ) (j : Result OldHeader Fault) → OldJudgedOf t bytes room j → length bytes < 2 ^ 64 → TakesIf j
 unfolding TakesIf OldReadyIf
-takes_if t bytes room (Refused num place) z l = tt
-takes_if t bytes room (Passed h) z l = record {
+takes_if t bytes room (Err d) z l = tt
+takes_if t bytes room (Ok h) z l = record {
   fit = fit h.sides z.ready.sized.fit;
   near = omega (arith, z.ready.sized.long, length-drop h.start bytes, z.ready.sized.within);
 }
@@ -78,25 +79,25 @@ record Within (bytes : List ℕ) (room : ℕ) (k : Taken) : Type 0 where
   roomy : k.count ≤ room
   unit : k.session.unit ≤ 1000
 
-within : (t : Settings) (bytes : List ℕ) (room : ℕ) (j : Judged) → OldJudgedOf t bytes room j → Within bytes room (old_taken_of j)
+within : (t : Settings) (bytes : List ℕ) (room : ℕ) (j : Result OldHeader Fault) → OldJudgedOf t bytes room j → Within bytes room (old_taken_of j)
 unfolding old_taken_of OldReadyIf
-within t bytes room (Refused num place) z = record { lies = omega arith; part = omega arith; roomy = omega arith; unit = omega arith }
-within t bytes room (Passed h) z =
+within t bytes room (Err d) z = record { lies = omega arith; part = omega arith; roomy = omega arith; unit = omega arith }
+within t bytes room (Ok h) z =
     let a = z.ready.sized.long in
     let b = length-drop h.start bytes in
     let c = z.ready.sized.within in
     record { lies = omega arith; part = omega arith; roomy = z.ready.roomy; unit = z.ready.sized.unit }
 
-labels_of_lem : (t : Settings) (bytes : List ℕ) (room : ℕ) (j : Judged) → OldJudgedOf t bytes room j
+labels_of_lem : (t : Settings) (bytes : List ℕ) (room : ℕ) (j : Result OldHeader Fault) → OldJudgedOf t bytes room j
     → take ((old_taken_of j).session.start + (old_taken_of j).count - (old_taken_of j).session.start) (drop (old_taken_of j).session.start bytes) ≡ (old_reading (old_asked t bytes room)).labels
 unfolding old_taken_of old_verdict_of OldReadyIf old_not_read old_header_of old_is_read old_labels_in
-labels_of_lem t bytes room (Refused num place) z = sym (ap (λ r. r.labels) (reading_refused (old_asked t bytes room) num place z.is))
-labels_of_lem t bytes room (Passed h) z =
+labels_of_lem t bytes room (Err d) z = sym (ap (λ r. r.labels) (reading_refused (old_asked t bytes room) (number_of d) (place_of d) z.is))
+labels_of_lem t bytes room (Ok h) z =
     let n = cells h.sides in
     let m : h.start + 2 * n + n - (h.start + 2 * n) ≡ n = omega arith in
     ap₂ take m (sym (drop-drop (2 * n) h.start bytes)) ∙ sym (ap old_labels_in z.ready.sized.is) ∙ sym (ap (λ r. r.labels) (reading_passed (old_asked t bytes room) z.is))
 
-module _ (t : Settings) (bytes : List ℕ) (room : ℕ) (j : Judged) (k : Taken) (z : OldJudgedOf t bytes room j) (e : k ≡ old_taken_of j) where
+module _ (t : Settings) (bytes : List ℕ) (room : ℕ) (j : Result OldHeader Fault) (k : Taken) (z : OldJudgedOf t bytes room j) (e : k ≡ old_taken_of j) where
   known : Within bytes room k
   known = rw e (within t bytes room j z)
 
@@ -126,12 +127,12 @@ abbrev stored : List ℕ → Taken → List ℤ → List ℤ
 stored bytes k old = filled k.count (tab k.count (old_value_in (drop k.body bytes) k.session.unit)) old
 
 module _ (t : Settings) (bytes : List ℕ) (old : List ℤ) where
-  read_of : (j : Judged) → OldJudgedOf t bytes (length old) j → OldReadOf t bytes old (old_taken_of j).session (stored bytes (old_taken_of j) old)
+  read_of : (j : Result OldHeader Fault) → OldJudgedOf t bytes (length old) j → OldReadOf t bytes old (old_taken_of j).session (stored bytes (old_taken_of j) old)
   unfolding old_taken_of old_verdict_of OldReadyIf old_not_read old_header_of old_is_read old_values_in old_value_in filled tab body_start
-  read_of (Refused num place) z =
-      let q = reading_refused (old_lent t bytes old) num place (same_verdict t bytes old ∙ z.is) in
+  read_of (Err d) z =
+      let q = reading_refused (old_lent t bytes old) (number_of d) (place_of d) (same_verdict t bytes old ∙ z.is) in
       record { answer = rw q; sides = rw q; unit = rw q; start = rw q; values = rw q }
-  read_of (Passed h) z =
+  read_of (Ok h) z =
       let H = z.ready.sized.is in
       let q = reading_passed (old_lent t bytes old) (same_verdict t bytes old ∙ z.is) in
       let s : h.start ≡ length bytes - length (drop h.start bytes) = omega (arith, length-drop h.start bytes, z.ready.sized.within) in
@@ -143,7 +144,7 @@ module _ (t : Settings) (bytes : List ℕ) (old : List ℤ) where
         values = sym (ap (λ r. r.values) q ∙ ap (λ x. filled (cells x.sides) (old_values_in x) old) H);
       }
 
-  pub read_taken : (new : List ℤ) (j : Judged) (k : Taken) (body : List ℕ) → OldJudgedOf t bytes (length old) j → k ≡ old_taken_of j → body ≡ drop k.body bytes
+  pub read_taken : (new : List ℤ) (j : Result OldHeader Fault) (k : Taken) (body : List ℕ) → OldJudgedOf t bytes (length old) j → k ≡ old_taken_of j → body ≡ drop k.body bytes
       → new ≡ filled k.count (tab k.count (old_value_in body k.session.unit)) old
       → OldReadOf t bytes old k.session new
   read_taken new j k body z e b f = rw (f, b, e) (read_of j z)

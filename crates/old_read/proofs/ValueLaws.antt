@@ -21,10 +21,6 @@ use Rattle.method.specs.Form.{most_first, twos_complement, word_of}
 use Rattle.method.specs.OldForm.{short_signed, old_value_read}
 use Rattle.theory.proofs.Bytes.{in_word, word_value}
 use Rattle.theory.proofs.OldBytes.{Short, signed_short, two_at}
-use Rattle.theory.proofs.Firsts.{none_none, none_more, none_end, hit}
-use Rattle.checks.proofs.CheckLaws.{small_cell, within_both}
-use Rattle.session_values.proofs.WordLaws.{Stored, stored_none, stored_more, stored_all, room_left}
-use lib.ListN.{length-set}
 use Rattle.old_read.specs.OldBody.{old_value_in, bad_old_value}
 
 -- ---- the product
@@ -113,11 +109,4 @@ bad_of_cell body ls u c v r l f e q =
     let g : get_or ls c 0 ≡ get_or ls c 2 = get_or_any ls c 0 2 l in
     q ∙ ap₂ (λ x y. ltb (widest x) (nat_abs y)) g (to_z-of_z f ∙ e)
 
-pub two_in_body : (n c m : ℕ) → c < n → 2 * n ≤ m → 2 * c + 2 ≤ m
-two_in_body n c m h e = omega arith
-
 pub ruleset values = (rules, short_is, short_small, value_of_cell, bad_of_cell)
-
-pub ruleset searching = (rules, none_none, none_more, hit, none_end, small_cell, within_both, two_in_body)
-
-pub ruleset storing = (rules, stored_none, stored_more, stored_all, room_left, length-set, two_in_body)

@@ -8,20 +8,13 @@ ghost use Rattle.std.specs.Prelude.{◌≡◌};
 ghost use Rattle.method.specs.OldForm.{old_reading};
 ghost use Rattle.old_read.specs.OldReads.{TakesIf, OldReadOf, old_asked, old_taken_of};
 
-use answers::refusal;
+use answers::{Fault, refusal};
 use grid::place::cell_count;
 use judge::judge_old;
 use method::{Answer, Settings, Sides};
 use old_header::OldHeader;
 use session_header::line::rest;
 use values::store_values;
-
-// An old session, judged: number and place of the first check that fails, or what its lines name.
-#[derive(Clone, Copy)]
-enum Judged {
-    Refused(u32, u32),
-    Passed(OldHeader),
-}
 
 // What the reader hands back: the label part of the bytes begins at `start`.
 #[repr(C)]
@@ -42,15 +35,14 @@ struct Taken {
 }
 
 // What is taken of a session that was judged: of a refused one nothing, and no cell.
-fn taken_of(judged: Judged) -> Taken
+fn taken_of(judged: Result<OldHeader, Fault>) -> Taken
     requires { TakesIf judged }
     ensures { result ≡ old_taken_of judged }
 {
     match judged {
-        Judged::Refused(number, place) => {
-            let answer = refusal(number, place);
+        Err(fault) => {
             let session = OldSession {
-                answer,
+                answer: Answer::from(fault),
                 sides: Sides {
                     nx: 0,
                     ny: 0,
@@ -65,16 +57,13 @@ fn taken_of(judged: Judged) -> Taken
                 count: 0,
             }
         }
-        Judged::Passed(h) => {
-            let sides = h.sides;
-            let unit = h.unit;
+        Ok(h) => {
             let body = h.start;
-            let answer = refusal(0, 0);
-            let count = cell_count(sides);
+            let count = cell_count(h.sides);
             let session = OldSession {
-                answer,
-                sides,
-                unit,
+                answer: refusal(0, 0),
+                sides: h.sides,
+                unit: h.unit,
                 start: body + 2 * count,
             };
             Taken {

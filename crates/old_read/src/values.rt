@@ -9,8 +9,8 @@ ghost use Rattle.method.specs.OldForm.{short_signed};
 ghost use Rattle.old_read.specs.OldBody.{old_value_in, bad_old_value};
 
 use checks::cast::out_of_range;
-use method::Found;
-use session_values::{signed, word};
+use search::first_where;
+use session_values::{signed, store_first, word};
 
 // The unit times the signed number that a word of 16 bits stands for, as a word of 32 bits.
 fn product(w: u32, unit: u32) -> u32
@@ -56,18 +56,11 @@ fn bad_value_at(body: &[u8], labels: &[u8], unit: u32, c: usize) -> bool
 }
 
 // The first of n cells of a body whose value is out of its label's range.
-pub(crate) fn bad_value(body: &[u8], labels: &[u8], n: usize, unit: u32) -> Found
+pub(crate) fn bad_value(body: &[u8], labels: &[u8], n: usize, unit: u32) -> Option<u32>
     requires { (n ≤ 32768) × ((n ≤ length labels.now) × ((2 * n ≤ length body.now) × (unit ≤ 1000))) }
     ensures { result ≡ first (bad_old_value body.now labels.now unit) n }
 {
-    let mut c = 0;
-    while c < n {
-        if bad_value_at(body, labels, unit, c) {
-            return Found::At(c as u32);
-        }
-        c += 1;
-    }
-    Found::Nowhere
+    first_where(n, |c| bad_value_at(body, labels, unit, c))
 }
 
 // The values of the first n cells of a body, stored.
@@ -75,10 +68,5 @@ pub(crate) fn store_values(body: &[u8], n: usize, unit: u32, values: &mut [i32])
     requires { (n ≤ length values.old) × ((2 * n ≤ length body.now) × (unit ≤ 1000)) }
     ensures { values.new ≡ filled n (tab n (old_value_in body.now unit)) values.old }
 {
-    let mut c = 0;
-    while c < n {
-        let v = value_at(body, unit, c);
-        values[c] = v;
-        c += 1;
-    }
+    store_first(values, n, |c| value_at(body, unit, c));
 }

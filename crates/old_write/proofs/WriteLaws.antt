@@ -20,22 +20,22 @@ use Rattle.laws.specs.Whole.{neg}
 use Rattle.laws.proofs.Naturals.{le_or_lt}
 use Rattle.method.specs.declared.Answer.{Answer}
 use Rattle.method.specs.declared.Sides.{Sides}
-use Rattle.method.specs.declared.Found.{Found}
+use Rattle.std.specs.Prelude.{Result, Ok, Err}
 use Rattle.method.specs.Cast.{cells, sides_fit, first}
 use Rattle.method.specs.Answers.{fault, passed, refused, verdict, refusal, done}
 use Rattle.method.specs.Rooms.{filled}
 use Rattle.method.specs.OldForm.{stored, fits16, expressible, not_expressible, old_written, unit_fits, OldWriting, old_bytes_of, old_lengths_fit, old_writer_checks, old_writing}
-use Rattle.theory.proofs.Firsts.{none_none, none_more, none_end, hit}
 use Rattle.theory.specs.Sides.{Fit}
 use Rattle.theory.proofs.Sides.{fit}
-use Rattle.theory.proofs.Verdicts.{no_fault, verdict_agree, fails_at, passes_on, fault_no, fault_yes}
+use Rattle.theory.proofs.Verdicts.{verdict_agree, passes_on, fault_no}
 use Rattle.theory.proofs.OldRoundTrip.{unit_from}
 use Rattle.checks.specs.Faults.{cell_ruling}
-use Rattle.checks.specs.Rulings.{ruling_of, ruling_by, first_of}
-use Rattle.checks.specs.declared.Ruling.{Ruling}
-use Rattle.checks.specs.declared.Ruling.TheVariants.{Refused, Allowed}
-use Rattle.checks.proofs.RuleLaws.{ruling_last, ruling_more, both_allowed, ruled_none}
-use Rattle.checks.proofs.CheckLaws.{cells_ruled, small_cell, within_both}
+use Rattle.checks.specs.Rulings.{ruling_of, ruling_by, unless, first_of}
+use Rattle.answers.specs.Faults.{number_of, place_of}
+use Rattle.answers.specs.declared.Fault.{Fault}
+use Rattle.answers.specs.declared.Fault.TheVariants.{SideOutOfRange, WrongLength, SettingOutOfRange, Inexpressible}
+use Rattle.checks.proofs.RuleLaws.{side_is, length_is, setting_is, inexpressible_is, ruling_last, test_more, test_ends, both_allowed, ruled_well}
+use Rattle.checks.proofs.CheckLaws.{cells_ruled}
 use Rattle.signed_numbers.proofs.Signs.{below, above}
 use Rattle.text_out.specs.Puts.{Put}
 use Rattle.old_put.specs.OldPuts.{OldHeaderLength}
@@ -76,12 +76,12 @@ module _ (u : ℕ) (v : ℤ) (f : SFits w32 v) (s : ℕ) (e : s ≡ nat_abs (to_
 
 pub ruleset expressing = (rules, not-true, not-false, express_no, express_below, express_above)
 
--- the test of a cell, as the loop has it
+-- the test of a cell
 pub cell_test : (u : ℕ) (vs : List ℤ) (c : ℕ) (r : Bool) → mag (get_or vs c (pos 0)) < 2 ^ 31 → r ≡ expressible u (to_z w32 (of_z w32 (get_or vs c (pos 0)))) → not r ≡ inexpressible u vs c
 unfolding inexpressible
 cell_test u vs c r m e = let f : SFits w32 (get_or vs c (pos 0)) = record { sfits = m } in ap not (e ∙ ap (expressible u) (to_z-of_z f))
 
-pub ruleset searching = (rules, not-true, not-false, none_none, none_more, hit, none_end, small_cell, within_both, cell_test)
+pub ruleset searching = (rules, not-true, not-false, cell_test)
 
 and_true : (a b : Bool) → (a && b) ≡ true → (a ≡ true) × (b ≡ true)
 and_true true b e = (refl, e)
@@ -120,10 +120,6 @@ module _ (s : Sides) (u : ℕ) (ls : List ℕ) (vs : List ℤ) (room : ℕ) wher
 
   -- ---- 2, and then 4, 5 and 13
   module _ (b : Bool) (p : b ≡ old_lengths_fit lent) where
-    pub slices_2 : b ≡ false → Refused 2 0 ≡ old_slice_ruling lent
-    unfolding old_slice_ruling ruling_by first_of
-    slices_2 e = rw (fault_yes (old_lengths_fit lent) (sym p ∙ e))
-
     module _ (e : b ≡ true) (n : ℕ) (c : n ≡ cells s) where
       pub slices_labels : n ≤ length ls
       slices_labels = omega (arith, c, (lengths_known (sym p ∙ e)).0)
@@ -131,58 +127,52 @@ module _ (s : Sides) (u : ℕ) (ls : List ℕ) (vs : List ℤ) (room : ℕ) wher
       pub slices_values : n ≤ length vs
       slices_values = omega (arith, c, (lengths_known (sym p ∙ e)).1.0)
 
-      pub slices_cells : (o q r : Ruling) (x : Found) → o ≡ first_of q r → q ≡ cell_ruling ls vs n → r ≡ ruling_by 13 x → x ≡ first (inexpressible u vs) n → o ≡ old_slice_ruling lent
-      unfolding old_slice_ruling ruling_by first_of
-      slices_cells o q r x g a d f =
-          g ∙ ap₂ first_of (a ∙ ap (cell_ruling ls vs) c) (d ∙ ap (ruling_by 13) (f ∙ ap (first (inexpressible u vs)) c))
-          ∙ sym (ap (λ y. first_of (ruling_by 2 y) (first_of (cell_ruling ls vs (cells s)) (ruling_by 13 (first (inexpressible u vs) (cells s))))) (fault_no (old_lengths_fit lent) (sym p ∙ e)))
-
-  room_if : 0 < u → (q : Ruling) → q ≡ old_slice_ruling lent → OldRoomIf u (length whole) room q
-  unfolding OldRoomIf old_slice_ruling
-  room_if k (Refused x y) e = tt
-  room_if k Allowed e =
-      (k, (lengths_known (no_fault (old_lengths_fit lent) (ruled_none 2 _ (both_allowed (ruling_by 2 (fault (not (old_lengths_fit lent)))) _ (sym e)).0))).1.1)
+  room_if : 0 < u → (q : Result (Unit {0}) Fault) → q ≡ old_slice_ruling lent → OldRoomIf u (length whole) room q
+  unfolding OldRoomIf
+  room_if k (Err d) e = tt
+  room_if k (Ok x) e = (k, (lengths_known (ruled_well WrongLength _ (both_allowed (unless WrongLength (old_lengths_fit lent)) _ (sym e)).0)).1.1)
 
   -- ---- 1 and 3, and then the others
-  slices_ruled : (q : Ruling) → q ≡ old_slice_ruling lent → sides_fit s ≡ true → unit_fits u ≡ true → verdict old_writer_checks lent ≡ ruling_of q
-  unfolding old_writer_checks old_slice_ruling not_expressible inexpressible
+  slices_ruled : (q : Result (Unit {0}) Fault) → q ≡ old_slice_ruling lent → sides_fit s ≡ true → unit_fits u ≡ true → verdict old_writer_checks lent ≡ ruling_of q
+  unfolding old_writer_checks not_expressible inexpressible
   slices_ruled q e f g =
       passes_on _ _ lent (fault_no (sides_fit s) f) ∙ passes_on _ _ lent (fault_no (unit_fits u) g)
-      ∙ ruling_more _ _ lent (fault (not (old_lengths_fit lent))) _ refl
-      (cells_ruled (λ w. w.cast) _ lent (cells s) refl (ruling_by 13 (first (inexpressible u vs) (cells s))) (ruling_last _ lent (first (inexpressible u vs) (cells s)) refl))
+      ∙ test_more _ WrongLength length_is _ lent (old_lengths_fit lent) _ refl
+      (cells_ruled (λ w. w.cast) _ lent (cells s) refl (ruling_by Inexpressible (first (inexpressible u vs) (cells s))) (ruling_last _ Inexpressible inexpressible_is lent (first (inexpressible u vs) (cells s)) refl))
       ∙ ap ruling_of (sym e)
 
-  module _ (a : Bool) (p : a ≡ sides_fit s) where
-    pub cast_1 : a ≡ false → OldRuledOf s u ls vs room (Refused 1 0)
-    unfolding old_writer_checks ruling_of OldRoomIf
-    cast_1 d = record { is = fails_at _ _ lent 0 (fault_yes (sides_fit s) (sym p ∙ d)); roomy = tt }
+  module _ (a : Result (Unit {0}) Fault) (p : a ≡ unless SideOutOfRange (sides_fit s)) where
+    pub cast_1 : (d : Fault) → a ≡ Err d → OldRuledOf s u ls vs room (Err d)
+    unfolding old_writer_checks OldRoomIf
+    cast_1 d q = record { is = test_ends _ SideOutOfRange d side_is _ lent (sides_fit s) refl (sym p ∙ q); roomy = tt }
 
-    module _ (d : a ≡ true) where
-      pub cast_fit : Fit s
-      cast_fit = fit s (sym p ∙ d)
+    module _ (d : a ≡ Ok tt) where
+      sides_right : sides_fit s ≡ true
+      sides_right = ruled_well SideOutOfRange (sides_fit s) (sym p ∙ d)
 
       module _ (b : Bool) (q : b ≡ unit_fits u) where
-        pub cast_3 : b ≡ false → OldRuledOf s u ls vs room (Refused 3 0)
-        unfolding old_writer_checks ruling_of OldRoomIf
-        cast_3 e = record { is = passes_on _ _ lent (fault_no (sides_fit s) (sym p ∙ d)) ∙ fails_at _ _ lent 0 (fault_yes (unit_fits u) (sym q ∙ e)); roomy = tt }
+        pub cast_3 : b ≡ false → OldRuledOf s u ls vs room (Err SettingOutOfRange)
+        unfolding old_writer_checks OldRoomIf
+        cast_3 e = record {
+          is = passes_on _ _ lent (fault_no (sides_fit s) sides_right)
+              ∙ test_ends _ SettingOutOfRange SettingOutOfRange setting_is _ lent (unit_fits u) refl (ap (unless SettingOutOfRange) (sym q ∙ e));
+          roomy = tt;
+        }
 
-        pub cast_unit : b ≡ true → 0 < u
-        cast_unit e = unit_from u (sym q ∙ e)
+        pub cast_slices : (r : Result (Unit {0}) Fault) → b ≡ true → r ≡ old_slice_ruling lent → OldRuledOf s u ls vs room r
+        cast_slices r e f = record { is = slices_ruled r f sides_right (sym q ∙ e); roomy = room_if (unit_from u (sym q ∙ e)) r f }
 
-        pub cast_slices : (r : Ruling) → b ≡ true → r ≡ old_slice_ruling lent → OldRuledOf s u ls vs room r
-        cast_slices r e f = record { is = slices_ruled r f (sym p ∙ d) (sym q ∙ e); roomy = room_if (cast_unit e) r f }
-
-pub ready_fit : (s : Sides) (a : Bool) → a ≡ sides_fit s → a ≡ true → Fit s
-ready_fit s a p d = fit s (sym p ∙ d)
+pub ready_fit : (s : Sides) (a : Result (Unit {0}) Fault) → a ≡ unless SideOutOfRange (sides_fit s) → a ≡ Ok tt → Fit s
+ready_fit s a p d = fit s (ruled_well SideOutOfRange (sides_fit s) (sym p ∙ d))
 
 pub ready_unit : (u : ℕ) (b : Bool) → b ≡ unit_fits u → b ≡ true → 0 < u
 ready_unit u b q e = unit_from u (sym q ∙ e)
 
 pub ruleset lengths = (rules, not-true, not-false, lengths_labels, lengths_values, lengths_room)
 
-pub ruleset slices = (rules, not-true, not-false, slices_2, slices_labels, slices_values, slices_cells)
+pub ruleset slices = (rules, not-true, not-false, slices_labels, slices_values)
 
-pub ruleset casts = (rules, not-true, not-false, cast_1, cast_3, cast_slices)
+pub ruleset casts = (rules, not-true, not-false, cast_1, cast_3, cast_slices, ready_fit, ready_unit)
 
 -- ---- what the writer makes of it
 writing_refused : (w : OldWriting) (num place : ℕ) → verdict old_writer_checks w ≡ refused num place → old_writing w ≡ record { answer = refusal num place; count = 0; output = w.output }
@@ -211,26 +201,25 @@ module _ (s : Sides) (u : ℕ) (ls : List ℕ) (vs : List ℤ) (old : List ℕ) 
     ),
   )
 
-  module _ (r : Ruling) (z : OldRuledOf s u ls vs (length old) r) where
-    pub write_refused : (num place : ℕ) (a : Answer) → r ≡ Refused num place → a ≡ refusal num place → OldWriteOf s u ls vs old (record { answer = a; count = 0 }) old
-    unfolding ruling_of
-    write_refused num place a e f =
-        let q = writing_refused (old_offered s u ls vs old) num place (same_verdict ∙ z.is ∙ ap ruling_of e) in
+  module _ (r : Result (Unit {0}) Fault) (z : OldRuledOf s u ls vs (length old) r) where
+    pub write_refused : (d : Fault) (a : Answer) → r ≡ Err d → a ≡ refusal (number_of d) (place_of d) → OldWriteOf s u ls vs old (record { answer = a; count = 0 }) old
+    write_refused d a e f =
+        let q = writing_refused (old_offered s u ls vs old) (number_of d) (place_of d) (same_verdict ∙ z.is ∙ ap ruling_of e) in
         record { answer = f ∙ sym (ap (λ w. w.answer) q); count = sym (ap (λ w. w.count) q); output = sym (ap (λ w. w.output) q) }
 
-    roomy : r ≡ Allowed → (0 < u) × (length bytes ≤ length old)
+    roomy : r ≡ Ok tt → (0 < u) × (length bytes ≤ length old)
     unfolding OldRoomIf
     roomy e = rw e at z.roomy
 
-    pub write_unit : r ≡ Allowed → 0 < u
+    pub write_unit : r ≡ Ok tt → 0 < u
     write_unit e = (roomy e).0
 
-    pub write_room : r ≡ Allowed → length (old_written (record { sides = s; labels = ls; values = vs }) u) ≤ length old
+    pub write_room : r ≡ Ok tt → length (old_written (record { sides = s; labels = ls; values = vs }) u) ≤ length old
     write_room e = (roomy e).1
 
-    pub write_allowed : (a : Answer) (new : List ℕ) (n : ℕ) → r ≡ Allowed → a ≡ refusal 0 0 → Put (old_written (record { sides = s; labels = ls; values = vs }) u) old 0 new n
+    pub write_allowed : (a : Answer) (new : List ℕ) (n : ℕ) → r ≡ Ok tt → a ≡ refusal 0 0 → Put (old_written (record { sides = s; labels = ls; values = vs }) u) old 0 new n
         → OldWriteOf s u ls vs old (record { answer = a; count = n }) new
-    unfolding ruling_of done filled
+    unfolding done filled
     write_allowed a new n e f p =
         let q = writing_passed (old_offered s u ls vs old) (same_verdict ∙ z.is ∙ ap ruling_of e) in
         let k : 0 + length bytes ≡ length bytes = omega arith in

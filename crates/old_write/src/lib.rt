@@ -7,9 +7,8 @@ mod units;
 ghost use Rattle.old_write.specs.OldWrites.{OldWriteOf};
 
 use answers::refusal;
-use checks::Ruling;
 use judge::judge_old_cast;
-use method::Sides;
+use method::{Answer, Sides};
 use old_put::put_old_session;
 use session_write::Written;
 
@@ -24,11 +23,11 @@ pub fn write_old(
     ensures { OldWriteOf sides unit labels.now values.now output.old result output.new }
 {
     match judge_old_cast(sides, unit, labels, values, output.len()) {
-        Ruling::Refused(number, place) => {
-            let answer = refusal(number, place);
+        Err(fault) => {
+            let answer = Answer::from(fault);
             Written { answer, count: 0 }
         }
-        Ruling::Allowed => {
+        Ok(()) => {
             let count = put_old_session(sides, unit, labels, values, output);
             let answer = refusal(0, 0);
             Written { answer, count }

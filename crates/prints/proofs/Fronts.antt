@@ -4,7 +4,7 @@ use mathlib.Core.Path.{◌≡◌, refl, sym, ap, ap₂, ◌∙◌}
 use mathlib.Core.Bool.{Bool, true, false, cond}
 use mathlib.Core.List.{List, [], ◌∷◌, ◌++◌}
 use mathlib.Core.Logic.{⊎_elim}
-use mathlib.Core.Option.{Option, none, some}
+use Rattle.std.specs.Prelude.{Option, None, Some}
 use Prim.Native.Nat.{ℕ, suc, ◌+◌, ◌*◌, ◌≤◌, ◌<◌}
 use native.Mathlib.Nat.{not-suc-le-zero, le_of_suc-le-suc}
 use native.Mathlib.Omega.{arith}
@@ -14,8 +14,6 @@ use lib.ListN.{length, take, drop, length-append, length-drop, take-append-drop}
 use lib.Seq.{drop-append-le, take_all, length-take-le}
 use Rattle.laws.specs.Text.{text}
 use Rattle.laws.proofs.Naturals.{le_or_lt}
-use Rattle.method.specs.declared.Found.{Found}
-use Rattle.method.specs.declared.Found.TheVariants.{Nowhere, At}
 use Rattle.method.specs.Cast.{between, cells, sides_fit}
 use Rattle.method.specs.Numbers.{last_digit, spelled, decimal, digits, is_digit, is_number, value_of}
 use Rattle.method.specs.Form.{order_word, line, header_written, Line, bad, good, after, closed, number_line, order_line, lines, Lines, wrong, right, more, read_lines, header_of, header, wrong_line, bad_line}
@@ -30,8 +28,8 @@ use Rattle.prints.proofs.Rules.{bare, printed_refused, fault_too_many, fault_non
 
 -- what is read, where more bytes follow
 abbrev on : List ℕ → Option (List ℕ) → Option (List ℕ)
-on tail none = none
-on tail (some cs) = some (cs ++ tail)
+on tail None = None
+on tail (Some cs) = Some (cs ++ tail)
 
 abbrev pub line_on : List ℕ → Line → Line
 line_on tail bad = bad
@@ -48,11 +46,11 @@ after_on (k ∷ ks) [] tail h = absurd (not-suc-le-zero h)
 after_on (k ∷ ks) (b ∷ bs) tail h = go (eqb b k) (after_on ks bs tail (le_of_suc-le-suc h))
   where
     go : (t : Bool) → after ks (bs ++ tail) ≡ on tail (after ks bs)
-        → ◌≡◌ {A = Option (List ℕ)} (elim t [ true ↦ after ks (bs ++ tail) | false ↦ none ]) (on tail (elim t [ true ↦ after ks bs | false ↦ none ]))
+        → ◌≡◌ {A = Option (List ℕ)} (elim t [ true ↦ after ks (bs ++ tail) | false ↦ None ]) (on tail (elim t [ true ↦ after ks bs | false ↦ None ]))
     go true e = e
     go false e = refl
 
-after_length : (ks bs cs : List ℕ) → after ks bs ≡ some cs → length bs ≡ length ks + length cs
+after_length : (ks bs cs : List ℕ) → after ks bs ≡ Some cs → length bs ≡ length ks + length cs
 after_length ks bs cs e = ap length (after_is ks bs cs e) ∙ length-append ks cs
 
 -- ---- a run of digits that ends before the bytes do is the same; one that does not is no shorter
@@ -84,23 +82,23 @@ long_number ds h = let j : 1 ≤ length ds = omega arith in rw (lt-leb (length d
 held : ℕ → List ℕ → Line
 held x cs = closed (digits cs) (after (x ∷ []) (drop (length (digits cs)) cs))
 
-number_none : (x : ℕ) (key bs : List ℕ) → after key bs ≡ none → number_to (x ∷ []) key bs ≡ bad
+number_none : (x : ℕ) (key bs : List ℕ) → after key bs ≡ None → number_to (x ∷ []) key bs ≡ bad
 unfolding number_to
 number_none x key bs e = rw (number_to, e)
 
-number_some : (x : ℕ) (key bs cs : List ℕ) → after key bs ≡ some cs → number_to (x ∷ []) key bs ≡ held x cs
+number_some : (x : ℕ) (key bs cs : List ℕ) → after key bs ≡ Some cs → number_to (x ∷ []) key bs ≡ held x cs
 unfolding number_to held
 number_some x key bs cs e = rw (number_to, e)
 
 closed_not : (ds : List ℕ) (o : Option (List ℕ)) → is_number ds ≡ false → closed ds o ≡ bad
 unfolding closed
-closed_not ds none e = refl
-closed_not ds (some rest) e = rw e
+closed_not ds None e = refl
+closed_not ds (Some rest) e = rw e
 
 closed_on : (ds tail : List ℕ) (o : Option (List ℕ)) → closed ds (on tail o) ≡ line_on tail (closed ds o)
 unfolding closed
-closed_on ds tail none = refl
-closed_on ds tail (some rest) = go (is_number ds)
+closed_on ds tail None = refl
+closed_on ds tail (Some rest) = go (is_number ds)
   where
     go : (t : Bool) → ◌≡◌ {A = Line} (cond t (good (value_of 0 ds) (rest ++ tail)) bad) (line_on tail (cond t (good (value_of 0 ds) rest) bad))
     go true = refl
@@ -132,7 +130,7 @@ left_of (good v rest) = rest
 not_good : {l : Line} {v : ℕ} {rest : List ℕ} → l ≡ bad → l ≡ good v rest → ⊥
 not_good p q = let z : ◌≡◌ {A = ℕ} 0 1 = cc in omega arith
 
-closed_left : (ds x : List ℕ) (v : ℕ) (rest : List ℕ) → closed ds (some x) ≡ good v rest → x ≡ rest
+closed_left : (ds x : List ℕ) (v : ℕ) (rest : List ℕ) → closed ds (Some x) ≡ good v rest → x ≡ rest
 unfolding closed
 closed_left ds x v rest e = go (is_number ds) e
   where
@@ -145,8 +143,8 @@ unfolding held closed
 held_left x cs v rest e = go (after (x ∷ []) (drop (length (digits cs)) cs)) refl
   where
     go : (o : Option (List ℕ)) → after (x ∷ []) (drop (length (digits cs)) cs) ≡ o → length cs ≤ length rest + 8
-    go none q = absurd (not_good (ap (closed (digits cs)) q) e)
-    go (some y) q = ⊎_elim
+    go None q = absurd (not_good (ap (closed (digits cs)) q) e)
+    go (Some y) q = ⊎_elim
         (λ l. absurd (not_good (closed_not (digits cs) (after (x ∷ []) (drop (length (digits cs)) cs)) (long_number (digits cs) l)) e))
         (λ l. omega (arith, after_length (x ∷ []) (drop (length (digits cs)) cs) y q, length-drop (length (digits cs)) cs, ap length (closed_left (digits cs) y v rest (sym (ap (closed (digits cs)) q) ∙ e))))
         (le_or_lt 8 (length (digits cs)))
@@ -166,16 +164,16 @@ to_front x key = record { on = on'; left = left' }
         same = after_on key bs tail (omega arith)
 
         go : (o : Option (List ℕ)) → after key bs ≡ o → number_to (x ∷ []) key (bs ++ tail) ≡ line_on tail (number_to (x ∷ []) key bs)
-        go none e = number_none x key (bs ++ tail) (same ∙ ap (on tail) e) ∙ sym (ap (line_on tail) (number_none x key bs e))
-        go (some cs) e =
+        go None e = number_none x key (bs ++ tail) (same ∙ ap (on tail) e) ∙ sym (ap (line_on tail) (number_none x key bs e))
+        go (Some cs) e =
             number_some x key (bs ++ tail) (cs ++ tail) (same ∙ ap (on tail) e) ∙ held_on x cs tail (omega (arith, after_length key bs cs e)) ∙ sym (ap (line_on tail) (number_some x key bs cs e))
 
     left' : (bs : List ℕ) (v : ℕ) (rest : List ℕ) → number_to (x ∷ []) key bs ≡ good v rest → length bs ≤ length rest + (length key + 8)
     left' bs v rest e = go (after key bs) refl
       where
         go : (o : Option (List ℕ)) → after key bs ≡ o → length bs ≤ length rest + (length key + 8)
-        go none q = absurd (not_good (number_none x key bs q) e)
-        go (some cs) q = omega (arith, after_length key bs cs q, held_left x cs v rest (sym (number_some x key bs cs q) ∙ e))
+        go None q = absurd (not_good (number_none x key bs q) e)
+        go (Some cs) q = omega (arith, after_length key bs cs q, held_left x cs v rest (sym (number_some x key bs cs q) ∙ e))
 
 number_front : (key : List ℕ) → Front (number_line key) (length key + 8)
 number_front key = let f = to_front 10 key in record {
@@ -185,23 +183,23 @@ number_front key = let f = to_front 10 key in record {
 
 -- ---- the line of the order
 abbrev ordered : Option (List ℕ) → Option (List ℕ) → Line
-ordered (some rest) o = good 0 rest
-ordered none (some rest) = good 1 rest
-ordered none none = bad
+ordered (Some rest) o = good 0 rest
+ordered None (Some rest) = good 1 rest
+ordered None None = bad
 
 order_by : (bs : List ℕ) → order_line bs ≡ ordered (after (text "order=big\n") bs) (after (text "order=little\n") bs)
 unfolding order_line
 order_by bs = go (after (text "order=big\n") bs) (after (text "order=little\n") bs)
   where
-    go : (a b : Option (List ℕ)) → ◌≡◌ {A = Line} (elim a [ some rest ↦ good 0 rest | none ↦ elim b [ some rest ↦ good 1 rest | none ↦ bad ] ]) (ordered a b)
-    go (some rest) b = refl
-    go none (some rest) = refl
-    go none none = refl
+    go : (a b : Option (List ℕ)) → ◌≡◌ {A = Line} (elim a [ Some rest ↦ good 0 rest | None ↦ elim b [ Some rest ↦ good 1 rest | None ↦ bad ] ]) (ordered a b)
+    go (Some rest) b = refl
+    go None (Some rest) = refl
+    go None None = refl
 
 ordered_on : (tail : List ℕ) (a b : Option (List ℕ)) → ordered (on tail a) (on tail b) ≡ line_on tail (ordered a b)
-ordered_on tail (some rest) b = refl
-ordered_on tail none (some rest) = refl
-ordered_on tail none none = refl
+ordered_on tail (Some rest) b = refl
+ordered_on tail None (Some rest) = refl
+ordered_on tail None None = refl
 
 order_front : Front order_line 13
 order_front = record { on = on'; left = left' }
@@ -215,9 +213,9 @@ order_front = record { on = on'; left = left' }
     left' bs v rest e = go (after (text "order=big\n") bs) (after (text "order=little\n") bs) refl refl (sym (order_by bs) ∙ e)
       where
         go : (a b : Option (List ℕ)) → after (text "order=big\n") bs ≡ a → after (text "order=little\n") bs ≡ b → ordered a b ≡ good v rest → length bs ≤ length rest + 13
-        go (some x) b p q r = omega (arith, after_length (text "order=big\n") bs x p, ap (λ l. length (left_of l)) r)
-        go none (some x) p q r = omega (arith, after_length (text "order=little\n") bs x q, ap (λ l. length (left_of l)) r)
-        go none none p q r = absurd (not_good refl r)
+        go (Some x) b p q r = omega (arith, after_length (text "order=big\n") bs x p, ap (λ l. length (left_of l)) r)
+        go None (Some x) p q r = omega (arith, after_length (text "order=little\n") bs x q, ap (λ l. length (left_of l)) r)
+        go None None p q r = absurd (not_good refl r)
 
 -- ---- lines one after the other
 pub data Fronts : List (List ℕ → Line) → ℕ → Type 0 where
@@ -285,15 +283,15 @@ unfolding wrong_line
 wrong_on tail (wrong k) = refl
 wrong_on tail (right vs rest) = refl
 
-pub not_nowhere : {f : Found} {p : ℕ} → f ≡ At p → f ≡ Nowhere → ⊥
+pub not_nowhere : {f : Option ℕ} {p : ℕ} → f ≡ Some p → f ≡ None → ⊥
 not_nowhere p q = let z : ◌≡◌ {A = ℕ} 0 1 = cc in omega arith
 
-body_left : (m : ℕ) (ls : Lines) → Left m ls → wrong_line ls ≡ Nowhere → m ≤ length (header_of ls).body
+body_left : (m : ℕ) (ls : Lines) → Left m ls → wrong_line ls ≡ None → m ≤ length (header_of ls).body
 unfolding wrong_line header_of
 body_left m (wrong k) h e = absurd (not_nowhere refl e)
 body_left m (right vs rest) h e = h
 
-body_long : (bs : List ℕ) (m : ℕ) → m + 94 ≤ length bs → bad_line bs ≡ Nowhere → m ≤ length (header bs).body
+body_long : (bs : List ℕ) (m : ℕ) → m + 94 ≤ length bs → bad_line bs ≡ None → m ≤ length (header bs).body
 unfolding bad_line header
 body_long bs m h e = body_left m (read_lines 1 lines bs) (lines_left 1 94 lines seven bs m h) e
 
@@ -307,32 +305,32 @@ module _ (bs tail : List ℕ) (h : 94 ≤ length bs) where
   same_sides = ap (λ ls. (header_of ls).sides) (lines_on_lem 1 94 lines seven bs tail h) ∙ sides_on tail (read_lines 1 lines bs)
 
 -- ---- the verdict on a long input
-abbrev early : Found → Bool → Bool → Verdict
-early (At p) t u = refused 10 p
-early Nowhere false u = refused 1 0
-early Nowhere true true = refused 2 0
-early Nowhere true false = refused 11 0
+abbrev early : Option ℕ → Bool → Bool → Verdict
+early (Some p) t u = refused 10 p
+early None false u = refused 1 0
+early None true true = refused 2 0
+early None true false = refused 11 0
 
 module _ (room : ℕ) (bs : List ℕ) (h : 5 * room + 1 + 94 ≤ length bs) where
-  verdict_long : (f : Found) (t u : Bool) → bad_line bs ≡ f → sides_fit (header bs).sides ≡ t → ltb room (cells (header bs).sides) ≡ u
+  verdict_long : (f : Option ℕ) (t u : Bool) → bad_line bs ≡ f → sides_fit (header bs).sides ≡ t → ltb room (cells (header bs).sides) ≡ u
       → verdict (program_checks room) (bare room bs) ≡ early f t u
   unfolding program_checks line_check side_check body_check
-  verdict_long (At p) t u x y z = fails_at _ _ (bare room bs) p x
-  verdict_long Nowhere false u x y z = passes_on _ _ (bare room bs) x ∙ fails_at _ _ (bare room bs) 0 (fault_yes _ y)
-  verdict_long Nowhere true true x y z = passes_on _ _ (bare room bs) x ∙ passes_on _ _ (bare room bs) (fault_no _ y) ∙ fails_at _ _ (bare room bs) 0 (fault_too_many _ z)
-  verdict_long Nowhere true false x y z =
+  verdict_long (Some p) t u x y z = fails_at _ _ (bare room bs) p x
+  verdict_long None false u x y z = passes_on _ _ (bare room bs) x ∙ fails_at _ _ (bare room bs) 0 (fault_yes _ y)
+  verdict_long None true true x y z = passes_on _ _ (bare room bs) x ∙ passes_on _ _ (bare room bs) (fault_no _ y) ∙ fails_at _ _ (bare room bs) 0 (fault_too_many _ z)
+  verdict_long None true false x y z =
       passes_on _ _ (bare room bs) x ∙ passes_on _ _ (bare room bs) (fault_no _ y) ∙ passes_on _ _ (bare room bs) (fault_none _ z)
       ∙ fails_at _ _ (bare room bs) 0 (fault_yes _ (ne_eqb (length (header bs).body) (5 * cells (header bs).sides) longer))
     where
       longer : length (header bs).body ≡ 5 * cells (header bs).sides → ⊥
       longer e = omega (arith, body_long bs (5 * room + 1) h x, ltb-false room (cells (header bs).sides) z)
 
-early_print : (room : ℕ) (bs cs : List ℕ) (f : Found) (t u : Bool) → verdict (program_checks room) (bare room bs) ≡ early f t u
+early_print : (room : ℕ) (bs cs : List ℕ) (f : Option ℕ) (t u : Bool) → verdict (program_checks room) (bare room bs) ≡ early f t u
     → verdict (program_checks room) (bare room cs) ≡ early f t u → printed room bs ≡ printed room cs
-early_print room bs cs (At p) t u x y = printed_refused room bs 10 p x ∙ sym (printed_refused room cs 10 p y)
-early_print room bs cs Nowhere false u x y = printed_refused room bs 1 0 x ∙ sym (printed_refused room cs 1 0 y)
-early_print room bs cs Nowhere true true x y = printed_refused room bs 2 0 x ∙ sym (printed_refused room cs 2 0 y)
-early_print room bs cs Nowhere true false x y = printed_refused room bs 11 0 x ∙ sym (printed_refused room cs 11 0 y)
+early_print room bs cs (Some p) t u x y = printed_refused room bs 10 p x ∙ sym (printed_refused room cs 10 p y)
+early_print room bs cs None false u x y = printed_refused room bs 1 0 x ∙ sym (printed_refused room cs 1 0 y)
+early_print room bs cs None true true x y = printed_refused room bs 2 0 x ∙ sym (printed_refused room cs 2 0 y)
+early_print room bs cs None true false x y = printed_refused room bs 11 0 x ∙ sym (printed_refused room cs 11 0 y)
 
 -- THE FRONT DECIDES: what follows 5 bytes a cell of room, one byte more and 94 bytes of header, changes nothing that is
 -- printed

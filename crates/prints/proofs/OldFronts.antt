@@ -16,8 +16,7 @@ use Rattle.laws.proofs.Naturals.{le_or_lt}
 use Rattle.method.specs.declared.Sides.{Sides}
 use Rattle.method.specs.declared.Settings.{Settings}
 use Rattle.method.specs.declared.Order.{Order}
-use Rattle.method.specs.declared.Found.{Found}
-use Rattle.method.specs.declared.Found.TheVariants.{Nowhere, At}
+use Rattle.std.specs.Prelude.{Option, None, Some}
 use Rattle.method.specs.Cast.{cells, sides_fit}
 use Rattle.method.specs.Numbers.{last_digit, spelled, decimal}
 use Rattle.method.specs.Form.{line, Lines, wrong, right, read_lines}
@@ -46,12 +45,12 @@ unfolding old_wrong_line
 wrong_on tail (wrong k) = refl
 wrong_on tail (right vs rest) = refl
 
-body_left : (m : ℕ) (ls : Lines) → Left m ls → old_wrong_line ls ≡ Nowhere → m ≤ length (old_header_of ls).body
+body_left : (m : ℕ) (ls : Lines) → Left m ls → old_wrong_line ls ≡ None → m ≤ length (old_header_of ls).body
 unfolding old_wrong_line old_header_of
 body_left m (wrong k) h e = absurd (not_nowhere refl e)
 body_left m (right vs rest) h e = h
 
-body_long : (bs : List ℕ) (m : ℕ) → m + 42 ≤ length bs → old_bad_line bs ≡ Nowhere → m ≤ length (old_header bs).body
+body_long : (bs : List ℕ) (m : ℕ) → m + 42 ≤ length bs → old_bad_line bs ≡ None → m ≤ length (old_header bs).body
 unfolding old_bad_line old_header
 body_long bs m h e = body_left m (read_lines 1 old_parts bs) (lines_left 1 42 old_parts four bs m h) e
 
@@ -70,18 +69,18 @@ unfolding cells
 cells_most s e = let f = fit s e in omega (arith, large_room_lem, mul-le-mul f.nx_32 (mul-le-mul f.ny_32 f.nz_32))
 
 -- ---- the verdict on a long input: 10, 1 or 11
-abbrev early : Found → Bool → Verdict
-early (At p) t = refused 10 p
-early Nowhere false = refused 1 0
-early Nowhere true = refused 11 0
+abbrev early : Option ℕ → Bool → Verdict
+early (Some p) t = refused 10 p
+early None false = refused 1 0
+early None true = refused 11 0
 
 module _ (room : ℕ) (t : Settings) where
-  verdict_long : (bs : List ℕ) → 3 * large_room + 1 + 42 ≤ length bs → (f : Found) (w : Bool) → old_bad_line bs ≡ f → sides_fit (old_header bs).sides ≡ w
+  verdict_long : (bs : List ℕ) → 3 * large_room + 1 + 42 ≤ length bs → (f : Option ℕ) (w : Bool) → old_bad_line bs ≡ f → sides_fit (old_header bs).sides ≡ w
       → verdict old_reader_checks (old_taken room t bs) ≡ early f w
   unfolding old_reader_checks old_line_check old_side_check old_body_check
-  verdict_long bs h (At p) w x y = fails_at _ _ (old_taken room t bs) p x
-  verdict_long bs h Nowhere false x y = passes_on _ _ (old_taken room t bs) x ∙ fails_at _ _ (old_taken room t bs) 0 (fault_yes _ y)
-  verdict_long bs h Nowhere true x y =
+  verdict_long bs h (Some p) w x y = fails_at _ _ (old_taken room t bs) p x
+  verdict_long bs h None false x y = passes_on _ _ (old_taken room t bs) x ∙ fails_at _ _ (old_taken room t bs) 0 (fault_yes _ y)
+  verdict_long bs h None true x y =
       passes_on _ _ (old_taken room t bs) x ∙ passes_on _ _ (old_taken room t bs) (fault_no _ y)
       ∙ fails_at _ _ (old_taken room t bs) 0 (fault_yes _ (ne_eqb (length (old_header bs).body) (3 * cells (old_header bs).sides) longer))
     where
@@ -107,11 +106,11 @@ module _ (room : ℕ) (t : Settings) where
 
   module _ (bs cs : List ℕ) where
     -- sessions that are refused alike are answered alike
-    early_same : (f : Found) (w : Bool) → verdict old_reader_checks (old_taken room t bs) ≡ early f w → verdict old_reader_checks (old_taken room t cs) ≡ early f w
+    early_same : (f : Option ℕ) (w : Bool) → verdict old_reader_checks (old_taken room t bs) ≡ early f w → verdict old_reader_checks (old_taken room t cs) ≡ early f w
         → (old_printed room t bs ≡ old_printed room t cs) × ((o : Order) → renewal room o t bs ≡ renewal room o t cs)
-    early_same (At p) w x y = (old_printed_refused bs 10 p x ∙ sym (old_printed_refused cs 10 p y), λ o. renewal_refused o bs 10 p x ∙ sym (renewal_refused o cs 10 p y))
-    early_same Nowhere false x y = (old_printed_refused bs 1 0 x ∙ sym (old_printed_refused cs 1 0 y), λ o. renewal_refused o bs 1 0 x ∙ sym (renewal_refused o cs 1 0 y))
-    early_same Nowhere true x y = (old_printed_refused bs 11 0 x ∙ sym (old_printed_refused cs 11 0 y), λ o. renewal_refused o bs 11 0 x ∙ sym (renewal_refused o cs 11 0 y))
+    early_same (Some p) w x y = (old_printed_refused bs 10 p x ∙ sym (old_printed_refused cs 10 p y), λ o. renewal_refused o bs 10 p x ∙ sym (renewal_refused o cs 10 p y))
+    early_same None false x y = (old_printed_refused bs 1 0 x ∙ sym (old_printed_refused cs 1 0 y), λ o. renewal_refused o bs 1 0 x ∙ sym (renewal_refused o cs 1 0 y))
+    early_same None true x y = (old_printed_refused bs 11 0 x ∙ sym (old_printed_refused cs 11 0 y), λ o. renewal_refused o bs 11 0 x ∙ sym (renewal_refused o cs 11 0 y))
 
   -- THE FRONT DECIDES
   old_front_decides : (bs tail : List ℕ) → 3 * large_room + 1 + 42 ≤ length bs

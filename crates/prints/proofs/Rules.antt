@@ -9,8 +9,7 @@ use borrow.Author.Tests.{le-ltb, ltb-false}
 use lib.Dec.{ltb, eqb}
 use lib.IntN.{ℤ}
 use lib.ListN.{length}
-use Rattle.method.specs.declared.Found.{Found}
-use Rattle.method.specs.declared.Found.TheVariants.{Nowhere, At}
+use Rattle.std.specs.Prelude.{Option, None, Some}
 use Rattle.method.specs.Cast.{between, cells, sides_fit}
 use Rattle.method.specs.Form.{Lines, wrong, right, wrong_line, read_lines, lines, header_of, header, bad_line}
 use Rattle.method.specs.Answers.{check, fault, passed, refused, verdict, refusal}
@@ -34,7 +33,7 @@ module _ (room : ℕ) (bs : List ℕ) where
   printed_passed e = rw (printed, e)
 
 -- ---- a header that has a wrong line names no sides
-fit_lines : (l : Lines) → sides_fit (header_of l).sides ≡ true → wrong_line l ≡ Nowhere
+fit_lines : (l : Lines) → sides_fit (header_of l).sides ≡ true → wrong_line l ≡ None
 unfolding header_of wrong_line sides_fit between
 fit_lines (wrong k) e = absurd (no e)
   where
@@ -42,7 +41,7 @@ fit_lines (wrong k) e = absurd (no e)
     no q = let z : ◌≡◌ {A = ℕ} 0 1 = cc in omega arith
 fit_lines (right vs rest) e = refl
 
-pub line_fine : (bs : List ℕ) → sides_fit (header bs).sides ≡ true → bad_line bs ≡ Nowhere
+pub line_fine : (bs : List ℕ) → sides_fit (header bs).sides ≡ true → bad_line bs ≡ None
 unfolding header bad_line
 line_fine bs e = fit_lines (read_lines 1 lines bs) e
 
@@ -54,11 +53,11 @@ and_true false b e = absurd (no e)
     no q = let z : ◌≡◌ {A = ℕ} 0 1 = cc in omega arith
 
 -- ---- too many cells
-pub fault_too_many : (b : Bool) → b ≡ true → fault b ≡ At 0
+pub fault_too_many : (b : Bool) → b ≡ true → fault b ≡ Some 0
 unfolding fault
 fault_too_many b e = ap fault e
 
-pub fault_none : (b : Bool) → b ≡ false → fault b ≡ Nowhere
+pub fault_none : (b : Bool) → b ≡ false → fault b ≡ None
 unfolding fault
 fault_none b e = ap fault e
 
@@ -113,7 +112,7 @@ module _ (room : ℕ) (bs : List ℕ) where
     unfolding program_checks reader_checks line_check
     same_verdict = go (bad_line bs) refl
       where
-        go : (f : Found) → bad_line bs ≡ f → verdict (program_checks room) (bare room bs) ≡ verdict reader_checks full
-        go (At p) q = fails_at _ _ (bare room bs) p q ∙ sym (fails_at _ _ full p q)
-        go Nowhere q =
+        go : (f : Option ℕ) → bad_line bs ≡ f → verdict (program_checks room) (bare room bs) ≡ verdict reader_checks full
+        go (Some p) q = fails_at _ _ (bare room bs) p q ∙ sym (fails_at _ _ full p q)
+        go None q =
             passes_on _ _ (bare room bs) q ∙ past_lines (sides_fit (header bs).sides) refl (not_crowded (sides_fit (header bs).sides) refl) ∙ sym (passes_on _ _ full q)

@@ -5,106 +5,63 @@
 
 ghost use Rattle.std.specs.Prelude.{◌≡◌, ◌+◌, ◌-◌, ◌*◌, ◌/◌, ◌%◌, ◌≤◌, ◌<◌, length, take, drop};
 ghost use Rattle.laws.specs.Loops.{up};
+ghost use Rattle.laws.specs.Binary64.{◌⊕◌, ◌⊗◌};
 ghost use Rattle.method.specs.Cast.{cells};
+ghost use Rattle.method.specs.Transfers.{value};
 ghost use Rattle.theory.specs.Quiet.{Quiet};
 ghost use Rattle.transfer.specs.Transfer.{TwoLevels, corrected_room};
-ghost use Rattle.transfer.specs.Rows.{Stretch, two, row_step, pair_step, Rows, Halves, Pairs, Spread, coarse_step, Sums, given_sum, plus_at, plus_step};
+ghost use Rattle.transfer.specs.Rows.{Stretch, two, row_step, pair_step, Rows, Halves, Spread, coarse_step, Sums, given_sum, plus_at, plus_step};
 
-// The sum a of fine cell i with its two cells of the coarse row, the nearer under v.
-fn two_at(row: &[f64], i: usize, w: f64, v: f64, a: f64) -> f64
-    requires { i ≤ 32 }
-    ensures { result ≡ two row.now w v i a }
+use transfer::rows::RowPair;
+
+// The sum of fine cell i with its two cells of the coarse row.
+fn two_at(room: &[f64], rows: RowPair, i: usize) -> f64
+    requires { (rows.from + rows.cells ≤ length room.now) × ((rows.to + i < length room.now) × (i ≤ 32)) }
+    ensures { result ≡ two (take rows.cells (drop rows.from room.now)) rows.far rows.near i (value room.now (rows.to + i)) }
 {
+    let row = &room[rows.from..rows.from + rows.cells];
     let lower = (i + 1) / 2;
     let even = i % 2 == 0;
-    if even {
-        let sum = transfer::rows::add_cell(row, lower, w, a);
-        transfer::rows::add_cell(row, lower + 1, v, sum)
+    let (below, above) = if even {
+        (rows.far, rows.near)
     } else {
-        let sum = transfer::rows::add_cell(row, lower, v, a);
-        transfer::rows::add_cell(row, lower + 1, w, sum)
-    }
+        (rows.near, rows.far)
+    };
+    let sum = transfer::rows::add_cell(row, lower, below, room[rows.to + i]);
+    transfer::rows::add_cell(row, lower + 1, above, sum)
 }
 
-// Fine cell i of the row at o, from the coarse row at f.
-fn give_at(room: &mut [f64], f: usize, n: usize, o: usize, w: f64, v: f64, i: usize)
-    requires { (f + n ≤ length room.old) × ((o + i < length room.old) × (i ≤ 32)) }
-    ensures { room.new ≡ row_step two f n o w v i room.old }
-{
-    let old = room[o + i];
-    let sum = two_at(&room[f..f + n], i, w, v, old);
-    room[o + i] = sum;
-}
-
-// The sum a of fine cell 2·j + 1, which lies nearer to coarse j, where both its cells are in the row.
-fn odd_sum(row: &[f64], j: usize, w: f64, v: f64, a: f64) -> f64
-    requires { (j ≤ 16) × (j + 1 < length row.now) }
-    ensures { result ≡ two row.now w v (2 * j + 1) a }
-{
-    a + v * row[j] + w * row[j + 1]
-}
-
-// The sum a of fine cell 2·j + 2, which lies nearer to coarse j + 1.
-fn even_sum(row: &[f64], j: usize, w: f64, v: f64, a: f64) -> f64
-    requires { (j ≤ 16) × (j + 1 < length row.now) }
-    ensures { result ≡ two row.now w v (2 * j + 2) a }
+// The sum a with cells j and j + 1 of the row under the weights w and v.
+fn add_pair(row: &[f64], j: usize, w: f64, v: f64, a: f64) -> f64
+    requires { j + 1 < length row.now }
+    ensures { result ≡ a ⊕ w ⊗ value row.now j ⊕ v ⊗ value row.now (j + 1) }
 {
     a + w * row[j] + v * row[j + 1]
 }
 
-// Fine cell 2·j + 1 of the row at o.
-fn give_odd(room: &mut [f64], f: usize, n: usize, o: usize, w: f64, v: f64, j: usize)
-    requires { (f + n ≤ length room.old) × ((o + (2 * j + 1) < length room.old) × ((j ≤ 16) × (j + 1 < n))) }
-    ensures { room.new ≡ row_step two f n o w v (2 * j + 1) room.old }
+// The two fine cells between coarse j and j + 1: the first lies nearer to j, the second to j + 1.
+fn give_pair(room: &mut [f64], rows: RowPair, j: usize)
+    requires { (rows.from + rows.cells ≤ length room.old) × ((rows.to + (2 * j + 2) < length room.old) × ((j ≤ 16) × (j + 1 < rows.cells))) }
+    ensures { room.new ≡ pair_step rows.from rows.cells rows.to rows.far rows.near j room.old }
 {
-    let i = 2 * j + 1;
-    let old = room[o + i];
-    let sum = odd_sum(&room[f..f + n], j, w, v, old);
-    room[o + i] = sum;
+    let end = rows.from + rows.cells;
+    let i = rows.to + (2 * j + 1);
+    room[i] = add_pair(&room[rows.from..end], j, rows.near, rows.far, room[i]);
+    room[i + 1] = add_pair(&room[rows.from..end], j, rows.far, rows.near, room[i + 1]);
 }
 
-// Fine cell 2·j + 2.
-fn give_even(room: &mut [f64], f: usize, n: usize, o: usize, w: f64, v: f64, j: usize)
-    requires { (f + n ≤ length room.old) × ((o + (2 * j + 2) < length room.old) × ((j ≤ 16) × (j + 1 < n))) }
-    ensures { room.new ≡ row_step two f n o w v (2 * j + 2) room.old }
+// The coarse row, added to the sums of the fine cells: the first, then pairs, and the last where it is in no pair.
+fn give_row(room: &mut [f64], rows: RowPair)
+    requires { Rows rows.from rows.cells rows.to rows.sums room.old × Halves rows.sums rows.cells }
+    ensures { room.new ≡ up (row_step two rows.from rows.cells rows.to rows.far rows.near) rows.sums room.old }
 {
-    let i = 2 * j + 2;
-    let old = room[o + i];
-    let sum = even_sum(&room[f..f + n], j, w, v, old);
-    room[o + i] = sum;
-}
-
-// The two fine cells between coarse j and j + 1.
-fn give_pair(room: &mut [f64], f: usize, n: usize, o: usize, w: f64, v: f64, j: usize)
-    requires { (f + n ≤ length room.old) × ((o + (2 * j + 2) < length room.old) × ((j ≤ 16) × (j + 1 < n))) }
-    ensures { room.new ≡ pair_step f n o w v j room.old }
-{
-    give_odd(room, f, n, o, w, v, j);
-    give_even(room, f, n, o, w, v, j);
-}
-
-// All pairs that lie between two coarse cells: how many they are.
-fn give_pairs(room: &mut [f64], f: usize, n: usize, o: usize, m: usize, w: f64, v: f64) -> usize
-    requires { Rows f n o m room.old × Halves m n }
-    ensures { Pairs f n o m w v room.old room.new result }
-{
-    let mut j = 0;
-    while 2 * j + 2 < m {
-        give_pair(room, f, n, o, w, v, j);
-        j += 1;
+    room[rows.to] = two_at(&room[..], rows, 0);
+    for j in 0..(rows.sums - 1) / 2 {
+        give_pair(room, rows, j);
     }
-    j
-}
-
-// The coarse row of n cells at f, added to the sums of the m fine cells at o.
-fn give_row(room: &mut [f64], f: usize, n: usize, o: usize, m: usize, w: f64, v: f64)
-    requires { Rows f n o m room.old × Halves m n }
-    ensures { room.new ≡ up (row_step two f n o w v) m room.old }
-{
-    give_at(room, f, n, o, w, v, 0);
-    let r = give_pairs(room, f, n, o, m, w, v);
-    if 2 * r + 1 < m {
-        give_at(room, f, n, o, w, v, 2 * r + 1);
+    if rows.sums % 2 == 0 {
+        let last = rows.sums - 1;
+        room[rows.to + last] = two_at(&room[..], rows, last);
     }
 }
 
@@ -135,9 +92,17 @@ fn give_coarse(
     if at < n {
         let j = drawn_as(y, r % 2);
         let k = drawn_as(z, r / 2);
-        let w = transfer::weights::weight(0, j, k);
-        let v = transfer::weights::weight(1, j, k);
-        give_row(room, from + at, h.nx as usize, o, m, w, v);
+        let far = transfer::weights::weight(0, j, k);
+        let near = transfer::weights::weight(1, j, k);
+        let rows = RowPair {
+            from: from + at,
+            cells: h.nx as usize,
+            to: o,
+            sums: m,
+            far,
+            near,
+        };
+        give_row(room, rows);
     }
 }
 
@@ -155,10 +120,8 @@ fn give_all(
     requires { Spread h n from o m y z room.old × Halves m h.nx }
     ensures { room.new ≡ up (coarse_step h from o m y z) 4 room.old }
 {
-    let mut r = 0;
-    while r < 4 {
+    for r in 0..4 {
         give_coarse(room, h, n, from, o, m, y, z, r);
-        r += 1;
     }
 }
 
@@ -172,7 +135,7 @@ fn sum_row(room: &mut [f64], g: method::Sides, h: method::Sides, n: usize, m: us
     let y = r % ny;
     let z = r / ny;
     let o = 2 * n + nx * r;
-    transfer::rows::clear_row(room, o, nx);
+    rooms::clear_front(&mut room[o..], nx, 0.0);
     give_all(room, h, m, 3 * n, o, nx, y, z);
 }
 
@@ -182,10 +145,8 @@ fn sum_rows(room: &mut [f64], g: method::Sides, h: method::Sides, n: usize, m: u
     ensures { Stretch (given_sum g (take (cells h) (drop (3 * n) room.old))) (2 * n) n room.old room.new }
 {
     let rows = (g.ny as usize) * (g.nz as usize);
-    let mut r = 0;
-    while r < rows {
+    for r in 0..rows {
         sum_row(room, g, h, n, m, r);
-        r += 1;
     }
 }
 
@@ -212,10 +173,8 @@ fn add_sums(room: &mut [f64], labels: &[u8])
     requires { 3 * length labels.now ≤ length room.old }
     ensures { room.new ≡ up (plus_step labels.now) (length labels.now) room.old }
 {
-    let mut c = 0;
-    while c < labels.len() {
+    for c in 0..labels.len() {
         add_sum(room, labels, c);
-        c += 1;
     }
 }
 

@@ -2,7 +2,7 @@
 // asks nothing of its caller.
 #![tactic(auto)]
 
-ghost use Rattle.std.specs.Prelude.{◌≡◌};
+ghost use Rattle.std.specs.Prelude.{◌≡◌, ℕ, ◌≤◌};
 ghost use Rattle.method.specs.Rooms.{byte_need, float_need, word_need};
 ghost use Rattle.solve.specs.Solve.{asked, SolveOf};
 ghost use Rattle.many.specs.ManySolve.{asked_many, SolveManyOf};
@@ -10,7 +10,7 @@ ghost use Rattle.old_read.specs.OldReads.{OldReadOf};
 ghost use Rattle.old_write.specs.OldWrites.{OldWriteOf};
 ghost use Rattle.quetzalcup.specs.Face.{need_by, order_number, ReadBack, WrittenBy, unordered};
 
-use answers::refusal;
+use answers::Fault;
 use checks::cast::sides_fit;
 use grid::place::cell_count;
 use method::{Answer, Order, Settings, Sides};
@@ -52,9 +52,9 @@ fn unordered_answer(sides: Sides) -> Answer
     ensures { result ≡ unordered sides }
 {
     if sides_fit(sides) {
-        refusal(3, 0)
+        Answer::from(Fault::SettingOutOfRange)
     } else {
-        refusal(1, 0)
+        Answer::from(Fault::SideOutOfRange)
     }
 }
 
@@ -168,36 +168,36 @@ pub extern "C" fn quetz_old_write(
     old_write::write_old(sides, unit, labels, values, output)
 }
 
+// A need by the number of cells; 0 where a side is out of range.
+fn need<F: FnOnce(usize) -> usize>(sides: Sides, by: F) -> usize
+    requires { (n : ℕ) → n ≤ 32768 → F.pre by n }
+    ensures { (f : ℕ → ℕ) → ((n : ℕ) → (r : ℕ) → n ≤ 32768 → F.post by n r → r ≡ f n) → result ≡ need_by f sides }
+{
+    if sides_fit(sides) {
+        by(cell_count(sides))
+    } else {
+        0
+    }
+}
+
 // How many bytes, binary64 and u32 the solver's rooms need for a cast of these sides; 0 where a side is out of range.
 #[unsafe(no_mangle)]
 pub extern "C" fn quetz_byte_need(sides: Sides) -> usize
     ensures { result ≡ need_by byte_need sides }
 {
-    if sides_fit(sides) {
-        byte_need(cell_count(sides))
-    } else {
-        0
-    }
+    need(sides, byte_need)
 }
 
 #[unsafe(no_mangle)]
 pub extern "C" fn quetz_float_need(sides: Sides) -> usize
     ensures { result ≡ need_by float_need sides }
 {
-    if sides_fit(sides) {
-        float_need(cell_count(sides))
-    } else {
-        0
-    }
+    need(sides, float_need)
 }
 
 #[unsafe(no_mangle)]
 pub extern "C" fn quetz_word_need(sides: Sides) -> usize
     ensures { result ≡ need_by word_need sides }
 {
-    if sides_fit(sides) {
-        word_need(cell_count(sides))
-    } else {
-        0
-    }
+    need(sides, word_need)
 }

@@ -6,72 +6,52 @@
 ghost use Rattle.std.specs.Prelude.{◌≡◌, ◌+◌, ◌*◌, ◌/◌, ◌%◌, ◌≤◌, ◌<◌, length, take, drop};
 ghost use Rattle.laws.specs.Loops.{up};
 ghost use Rattle.method.specs.Cast.{cells};
+ghost use Rattle.method.specs.Transfers.{value};
 ghost use Rattle.theory.specs.Quiet.{Quiet};
 ghost use Rattle.transfer.specs.Transfer.{TwoLevels, restricted_room};
-ghost use Rattle.transfer.specs.Rows.{Stretch, four, row_step, Rows, Halves, Middle, Spread, fine_step, Sums, drawn_sum, over_at, over_step};
+ghost use Rattle.transfer.specs.Rows.{Stretch, four, row_step, Rows, Halves, Spread, fine_step, Sums, drawn_sum, over_at, over_step};
 
-// The sum a of coarse cell i with its four cells of the row.
-fn four_at(row: &[f64], i: usize, w: f64, v: f64, a: f64) -> f64
-    requires { i ≤ 16 }
-    ensures { result ≡ four row.now w v i a }
+use transfer::rows::RowPair;
+
+// The sum of coarse cell i with its four cells of the fine row.
+fn four_at(room: &[f64], rows: RowPair, i: usize) -> f64
+    requires { (rows.from + rows.cells ≤ length room.now) × ((rows.to + i < length room.now) × (i ≤ 16)) }
+    ensures { result ≡ four (take rows.cells (drop rows.from room.now)) rows.far rows.near i (value room.now (rows.to + i)) }
 {
-    let first = transfer::rows::add_cell(row, 2 * i, w, a);
-    let second = transfer::rows::add_cell(row, 2 * i + 1, v, first);
-    let third = transfer::rows::add_cell(row, 2 * i + 2, v, second);
-    transfer::rows::add_cell(row, 2 * i + 3, w, third)
+    let row = &room[rows.from..rows.from + rows.cells];
+    let first = transfer::rows::add_cell(row, 2 * i, rows.far, room[rows.to + i]);
+    let second = transfer::rows::add_cell(row, 2 * i + 1, rows.near, first);
+    let third = transfer::rows::add_cell(row, 2 * i + 2, rows.near, second);
+    transfer::rows::add_cell(row, 2 * i + 3, rows.far, third)
 }
 
 // The same where all four are in the row.
-fn four_inside(row: &[f64], i: usize, w: f64, v: f64, a: f64) -> f64
-    requires { (0 < i) × ((i ≤ 16) × (2 * i + 3 ≤ length row.now)) }
-    ensures { result ≡ four row.now w v i a }
+fn four_inside(room: &[f64], rows: RowPair, i: usize) -> f64
+    requires in_bounds { (rows.from + rows.cells ≤ length room.now) × ((rows.to + i < length room.now) × (i ≤ 16)) }
+    requires inside { (0 < i) × (2 * i + 3 ≤ rows.cells) }
+    ensures { result ≡ four (take rows.cells (drop rows.from room.now)) rows.far rows.near i (value room.now (rows.to + i)) }
 {
+    let row = &room[rows.from..rows.from + rows.cells];
     let at = 2 * i;
-    a + w * row[at - 1] + v * row[at] + v * row[at + 1] + w * row[at + 2]
+    let sum = room[rows.to + i];
+    sum + rows.far * row[at - 1]
+        + rows.near * row[at]
+        + rows.near * row[at + 1]
+        + rows.far * row[at + 2]
 }
 
-// Coarse cell i of the row at o, from the fine row at f.
-fn draw_at(room: &mut [f64], f: usize, n: usize, o: usize, w: f64, v: f64, i: usize)
-    requires { (f + n ≤ length room.old) × ((o + i < length room.old) × (i ≤ 16)) }
-    ensures { room.new ≡ row_step four f n o w v i room.old }
+// The fine row, added to the coarse cells: the first and the last may lack cells of the four, those between have all.
+fn draw_row(room: &mut [f64], rows: RowPair)
+    requires { Rows rows.from rows.cells rows.to rows.sums room.old × Halves rows.cells rows.sums }
+    ensures { room.new ≡ up (row_step four rows.from rows.cells rows.to rows.far rows.near) rows.sums room.old }
 {
-    let old = room[o + i];
-    let sum = four_at(&room[f..f + n], i, w, v, old);
-    room[o + i] = sum;
-}
-
-// The same where all four are in the row.
-fn draw_inside(room: &mut [f64], f: usize, n: usize, o: usize, w: f64, v: f64, i: usize)
-    requires { (f + n ≤ length room.old) × ((o + i < length room.old) × ((0 < i) × ((i ≤ 16) × (2 * i + 3 ≤ n)))) }
-    ensures { room.new ≡ row_step four f n o w v i room.old }
-{
-    let old = room[o + i];
-    let sum = four_inside(&room[f..f + n], i, w, v, old);
-    room[o + i] = sum;
-}
-
-// All cells that have four in the row, from cell 1 on: how many they are, all but the last at least.
-fn draw_middle(room: &mut [f64], f: usize, n: usize, o: usize, m: usize, w: f64, v: f64) -> usize
-    requires { Rows f n o m room.old × Halves n m }
-    ensures { Middle four f n o m w v room.old room.new result }
-{
-    let mut j = 0;
-    while 2 * j + 4 < n {
-        draw_inside(room, f, n, o, w, v, j + 1);
-        j += 1;
+    let last = rows.sums - 1;
+    room[rows.to] = four_at(&room[..], rows, 0);
+    for i in 1..last {
+        room[rows.to + i] = four_inside(&room[..], rows, i);
     }
-    j
-}
-
-// The fine row of n cells at f, added to the m coarse cells at o.
-fn draw_row(room: &mut [f64], f: usize, n: usize, o: usize, m: usize, w: f64, v: f64)
-    requires { Rows f n o m room.old × Halves n m }
-    ensures { room.new ≡ up (row_step four f n o w v) m room.old }
-{
-    draw_at(room, f, n, o, w, v, 0);
-    let r = draw_middle(room, f, n, o, m, w, v);
-    if r + 1 < m {
-        draw_at(room, f, n, o, w, v, r + 1);
+    if 0 < last {
+        room[rows.to + last] = four_at(&room[..], rows, last);
     }
 }
 
@@ -92,9 +72,17 @@ fn draw_fine(
 {
     let at = grid::place::place(g, n, 1, 2 * y + r % 4, 2 * z + r / 4);
     if at < n {
-        let w = transfer::weights::weight(0, r % 4, r / 4);
-        let v = transfer::weights::weight(1, r % 4, r / 4);
-        draw_row(room, from + at, g.nx as usize, o, m, w, v);
+        let far = transfer::weights::weight(0, r % 4, r / 4);
+        let near = transfer::weights::weight(1, r % 4, r / 4);
+        let rows = RowPair {
+            from: from + at,
+            cells: g.nx as usize,
+            to: o,
+            sums: m,
+            far,
+            near,
+        };
+        draw_row(room, rows);
     }
 }
 
@@ -112,10 +100,8 @@ fn draw_all(
     requires { Spread g n from o m y z room.old × Halves g.nx m }
     ensures { room.new ≡ up (fine_step g from o m y z) 16 room.old }
 {
-    let mut r = 0;
-    while r < 16 {
+    for r in 0..16 {
         draw_fine(room, g, n, from, o, m, y, z, r);
-        r += 1;
     }
 }
 
@@ -129,7 +115,7 @@ fn sum_row(room: &mut [f64], g: method::Sides, h: method::Sides, n: usize, m: us
     let y = r % my;
     let z = r / my;
     let o = 3 * n + m + mx * r;
-    transfer::rows::clear_row(room, o, mx);
+    rooms::clear_front(&mut room[o..], mx, 0.0);
     draw_all(room, g, n, 2 * n, o, mx, y, z);
 }
 
@@ -139,10 +125,8 @@ fn sum_rows(room: &mut [f64], g: method::Sides, h: method::Sides, n: usize, m: u
     ensures { Stretch (drawn_sum g (take (cells g) (drop (2 * n) room.old))) (3 * n + m) m room.old room.new }
 {
     let rows = (h.ny as usize) * (h.nz as usize);
-    let mut r = 0;
-    while r < rows {
+    for r in 0..rows {
         sum_row(room, g, h, n, m, r);
-        r += 1;
     }
 }
 
@@ -168,10 +152,8 @@ fn end_sums(room: &mut [f64], below: &[u8], o: usize)
     requires { o + length below.now ≤ length room.old }
     ensures { room.new ≡ up (over_step below.now o) (length below.now) room.old }
 {
-    let mut c = 0;
-    while c < below.len() {
+    for c in 0..below.len() {
         end_sum(room, below, o, c);
-        c += 1;
     }
 }
 

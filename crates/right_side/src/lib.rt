@@ -15,7 +15,7 @@ fn level_at(labels: &[u8], values: &[i32], j: usize, sum: i64) -> i64
 {
     let opening = grid::near::label_at(labels, j) == 1;
     if opening {
-        signed_numbers::plus(sum, signed_numbers::wide(values[j]))
+        signed_numbers::plus(sum, i64::from(values[j]))
     } else {
         sum
     }
@@ -27,11 +27,9 @@ fn whole_at(labels: &[u8], values: &[i32], g: method::Sides, c: usize) -> i64
     ensures { WholeSide g labels.now values.now c result }
 {
     let around = grid::near::neighbours(g, labels.len(), c);
-    let mut b = signed_numbers::wide(values[c]);
-    let mut i = 0;
-    while i < 6 {
+    let mut b = i64::from(values[c]);
+    for i in 0..6 {
         b = level_at(labels, values, around[i], b);
-        i += 1;
     }
     b
 }

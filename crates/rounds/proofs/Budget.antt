@@ -13,12 +13,12 @@ use Rattle.laws.specs.Binary64.{◌⊕◌, ◌⊖◌, ◌⊗◌, +0}
 use Rattle.method.specs.declared.Sides.{Sides}
 use Rattle.method.specs.declared.Settings.{Settings}
 use Rattle.method.specs.declared.Scalars.{Scalars}
-use Rattle.method.specs.declared.Step.{Step}
-use Rattle.method.specs.declared.Step.TheVariants.{Go, Stalled}
+use Rattle.std.specs.Prelude.{Option, Some, None, Result, Ok, Err}
 use Rattle.method.specs.Cast.{Cast, cells, worst}
-use Rattle.answers.specs.declared.Ended.{Ended}
-use Rattle.answers.specs.declared.Ended.TheVariants.{Accepted, Unfinished}
-use Rattle.answers.specs.Ends.{end_of}
+use Rattle.answers.specs.declared.Passed.{Passed}
+use Rattle.answers.specs.declared.Halt.{Halt}
+use Rattle.answers.specs.declared.Halt.TheVariants.{LimitReached, Stalled}
+use Rattle.answers.specs.Ends.{end_of, number_of_end, rounds_of_end}
 use Rattle.method.specs.Transfers.{value, in_air}
 use Rattle.method.specs.Cycle.{applied, zeros}
 use Rattle.method.specs.Ticks.{passes, rounded}
@@ -26,8 +26,6 @@ use Rattle.method.specs.Rounds.{State, Turn, stalled, turned, End, solved, faile
 use Rattle.theory.proofs.Quiet.{quiet_zeros, quiet_right}
 use Rattle.smooth.proofs.After.{in_air_length, zeros_length}
 use Rattle.rounds.specs.declared.Plan.{Plan}
-use Rattle.acceptance.specs.declared.Tested.{Tested}
-use Rattle.acceptance.specs.declared.Tested.TheVariants.{Passed, Failed}
 use Rattle.acceptance.specs.Trial.{tested}
 use Rattle.cg_fields.specs.Fields.{Held, x_of, p_of, z_of, r_of}
 use Rattle.rounds.specs.Rounds.{cast_of, Calm, state_of, z_new, rho_new, beta_new, p_new, scalars_new, below, Scaled, Advanced, Ready, RunOf, EndOf}
@@ -39,7 +37,7 @@ module _ (g : Sides) (ls : List ℕ) (low : ℕ) (st : State) where
   unfolding round z_new rho_new beta_new p_new scalars_new
   round_is = refl
 
-module _ (g : Sides) (ls : List ℕ) (low done : ℕ) (rho : Float) (e k : List Float) (q : Scalars) (c : Scaled g ls low done rho e q k) (w : Step) (u : w ≡ step q) where
+module _ (g : Sides) (ls : List ℕ) (low done : ℕ) (rho : Float) (e k : List Float) (q : Scalars) (c : Scaled g ls low done rho e q k) (w : Result Float Float) (u : w ≡ step q) where
   abbrev here : State
   here = state_of (cells g) done rho e
 
@@ -52,7 +50,7 @@ module _ (g : Sides) (ls : List ℕ) (low done : ℕ) (rho : Float) (e k : List 
   step_is : round g ls low here ≡ moved g ls low here p_next rho_next w
   step_is = round_is g ls low here ∙ ap (moved g ls low here p_next rho_next) (ap step (sym c.is) ∙ sym u)
 
-  pub round_stalls : (a : Float) → w ≡ Stalled a → round g ls low here ≡ stalled
+  pub round_stalls : (a : Float) → w ≡ Err a → round g ls low here ≡ stalled
   unfolding moved
   round_stalls a h = step_is ∙ ap (moved g ls low here p_next rho_next) h
 
@@ -68,7 +66,7 @@ module _ (g : Sides) (ls : List ℕ) (low done : ℕ) (rho : Float) (e k : List 
   unfolding scalars_new scalars
   rho_is = sym (ap (λ (j : Scalars). j.rho) c.is)
 
-  pub round_goes : (alpha : Float) (s : List Float) → w ≡ Go alpha → Advanced g ls alpha k s → round g ls low here ≡ turned (state_of (cells g) (suc done) q.rho s)
+  pub round_goes : (alpha : Float) (s : List Float) → w ≡ Ok alpha → Advanced g ls alpha k s → round g ls low here ≡ turned (state_of (cells g) (suc done) q.rho s)
   unfolding moved
   round_goes alpha s h a =
       let p-is : p_next ≡ p_of (cells g) s = sym (a.p ∙ c.p) in
@@ -77,15 +75,12 @@ module _ (g : Sides) (ls : List ℕ) (low done : ℕ) (rho : Float) (e k : List 
       ∙ ap₂ (λ p o. turned (record { rounds = suc done; x = x_of (cells g) s; r = r_of (cells g) s; p = p; rho = o })) p-is rho_is
 
 -- ---- the test
-passed_not : {v : ℕ} → Passed v ≡ Failed → ⊥
-passed_not h = let z : ◌≡◌ {A = ℕ} 0 1 = cc in omega arith
-
-passed_is : (b : Bool) (v w : ℕ) → cond b (Passed v) Failed ≡ Passed w → (b ≡ true) × (v ≡ w)
+passed_is : (b : Bool) (v w : ℕ) → cond b (Some v) None ≡ Some w → (b ≡ true) × (v ≡ w)
 passed_is true v w h = (refl, cc)
-passed_is false v w h = absurd (passed_not (sym h))
+passed_is false v w h = cc
 
-failed_is : (b : Bool) (v : ℕ) → cond b (Passed v) Failed ≡ Failed → b ≡ false
-failed_is true v h = absurd (passed_not h)
+failed_is : (b : Bool) (v : ℕ) → cond b (Some v) None ≡ None → b ≡ false
+failed_is true v h = cc
 failed_is false v h = refl
 
 -- ---- what is left to do
@@ -115,12 +110,12 @@ module _ (g : Sides) (ls : List ℕ) (vs : List ℤ) (t : Settings) where
   run_more n st u h q = ap₂ (λ b v. elim b [ true ↦ pass k t st | false ↦ elim v [ stalled ↦ fail k t 9 st | turned next ↦ from n next ] ]) h q
 
   -- the test, as the code has it
-  module _ (v : Tested) (m : List Float) (e : v ≡ tested k t (x_of (cells g) m)) where
-    pass_here : (w : ℕ) → v ≡ Passed w → (passes k t (x_of (cells g) m) ≡ true) × (worst k (rounded k (x_of (cells g) m)) ≡ w)
+  module _ (v : Option ℕ) (m : List Float) (e : v ≡ tested k t (x_of (cells g) m)) where
+    pass_here : (w : ℕ) → v ≡ Some w → (passes k t (x_of (cells g) m) ≡ true) × (worst k (rounded k (x_of (cells g) m)) ≡ w)
     unfolding tested
     pass_here w q = passed_is _ _ w (sym e ∙ q)
 
-    fail_here : v ≡ Failed → passes k t (x_of (cells g) m) ≡ false
+    fail_here : v ≡ None → passes k t (x_of (cells g) m) ≡ false
     unfolding tested
     fail_here q = failed_is _ _ (sym e ∙ q)
 
@@ -132,21 +127,25 @@ module _ (g : Sides) (ls : List ℕ) (vs : List ℤ) (t : Settings) where
     pub left_none : Left 0 +0 e
     left_none = let none : t.rounds - 0 ≡ t.rounds = omega arith in record { is = ap (λ n. from n (state_of (cells g) 0 +0 e)) none }
 
-    module _ (done : ℕ) (rho : Float) (m : List Float) (l : Left done rho m) (v : Tested) (tv : v ≡ tested k t (x_of (cells g) m)) where
-      pub left_pass : (w : ℕ) (r : Ended) → v ≡ Passed w → r ≡ Accepted done w → RunOf g ls vs t e r m
+    module _ (done : ℕ) (rho : Float) (m : List Float) (l : Left done rho m) (v : Option ℕ) (tv : v ≡ tested k t (x_of (cells g) m)) where
+      pub left_pass : (w : ℕ) (r : Result Passed Halt) → v ≡ Some w → r ≡ Ok (record { rounds = done; worst = w }) → RunOf g ls vs t e r m
       unfolding pass end_of
       left_pass w r q a =
           let y = pass_here v m tv w q in
           record { is = sym l.is ∙ run_passes (t.rounds - done) (state_of (cells g) done rho m) y.0 ∙ rw (y.1, a) refl }
 
-      pub left_end : (r : Ended) → t.rounds ≤ done → v ≡ Failed → r ≡ Unfinished 8 done → RunOf g ls vs t e r m
+      pub left_end : (r : Result Passed Halt) → t.rounds ≤ done → done ≤ t.rounds → v ≡ None → r ≡ Err (LimitReached t.rounds) → RunOf g ls vs t e r m
       unfolding fail end_of
-      left_end r h q a =
+      left_end r h i q a =
           let none : t.rounds - done ≡ 0 = omega arith in
-          record { is = sym l.is ∙ ap (λ n. from n (state_of (cells g) done rho m)) none ∙ run_ends (state_of (cells g) done rho m) (fail_here v m tv q) ∙ rw a refl }
+          let all : done ≡ t.rounds = omega arith in
+          record { is = sym l.is ∙ ap (λ n. from n (state_of (cells g) done rho m)) none ∙ run_ends (state_of (cells g) done rho m) (fail_here v m tv q) ∙ rw (all, a) refl }
 
-      module _ (plan : Plan) (bytes words : List ℕ) (room : ℕ) (z : Ready g ls vs t plan bytes words room) (h : done < t.rounds) (q : v ≡ Failed)
-          (s : List Float) (o : Scalars) (c : Scaled g ls (below plan) done rho m o s) (w : Step) (sw : w ≡ step o) where
+      pub left_last : (w : ℕ) (r : Result Passed Halt) → t.rounds ≤ done → done ≤ t.rounds → v ≡ Some w → r ≡ Ok (record { rounds = t.rounds; worst = w }) → RunOf g ls vs t e r m
+      left_last w r h i q a = let all : done ≡ t.rounds = omega arith in left_pass w r q (a ∙ ap (λ n. Ok (record { rounds = n; worst = w })) (sym all))
+
+      module _ (plan : Plan) (bytes words : List ℕ) (room : ℕ) (z : Ready g ls vs t plan bytes words room) (h : done < t.rounds) (q : v ≡ None)
+          (s : List Float) (o : Scalars) (c : Scaled g ls (below plan) done rho m o s) (w : Result Float Float) (sw : w ≡ step o) where
         some_left : t.rounds - done ≡ suc (t.rounds - (done + 1))
         some_left = omega arith
 
@@ -159,11 +158,11 @@ module _ (g : Sides) (ls : List ℕ) (vs : List ℤ) (t : Settings) where
             sym l.is ∙ ap (λ n. from n (state_of (cells g) done rho m)) some_left
             ∙ run_more (t.rounds - (done + 1)) (state_of (cells g) done rho m) u (fail_here v m tv q) (ap (λ n. round g ls n (state_of (cells g) done rho m)) (sym level_count) ∙ y)
 
-        pub left_stall : (a : Float) (r : Ended) → w ≡ Stalled a → r ≡ Unfinished 9 done → RunOf g ls vs t e r s
+        pub left_stall : (a : Float) (r : Result Passed Halt) → w ≡ Err a → r ≡ Err (Stalled done) → RunOf g ls vs t e r s
         unfolding after fail end_of
         left_stall a r y b = record { is = left_after stalled (round_stalls g ls (below plan) done rho m s o c w sw a y) ∙ rw b refl }
 
-        pub left_more : (alpha : Float) (x : List Float) → w ≡ Go alpha → Advanced g ls alpha s x → Left (done + 1) o.rho x
+        pub left_more : (alpha : Float) (x : List Float) → w ≡ Ok alpha → Advanced g ls alpha s x → Left (done + 1) o.rho x
         unfolding after
         left_more alpha x y b = record {
           is = ap (λ n. from (t.rounds - (done + 1)) (state_of (cells g) n o.rho x)) (add-one done)
@@ -219,25 +218,28 @@ module _ (g : Sides) (ls : List ℕ) (vs : List ℤ) (e m : List Float) (h : Hel
       let r-new : r_of (cells g) m ≡ right_side (cast_of g ls vs) = ap (take (cells g)) after_z ∙ take_at (right_side (cast_of g ls vs)) (drop (4 * cells g) e) (cells g) r_long in
       record { x = rw x-none quiet_zeros; p = rw p-none quiet_zeros; r = rw r-new (quiet_right (cast_of g ls vs)) }
 
-  pub end_is : (t : Settings) (a : Ended) (s : List Float) → RunOf g ls vs t m a s → EndOf g ls vs t a s
+  pub end_is : (t : Settings) (a : Result Passed Halt) (s : List Float) → RunOf g ls vs t m a s → EndOf g ls vs t a s
   end_is t a s y = record { is = ap (run (cast_of g ls vs) t t.rounds) (sym start_is) ∙ y.is }
 
-pub ruleset budget = (turns, start_calm, left_none, left_pass, left_end, left_stall, left_more, held_ready, same_ready, end_is)
+pub ruleset budget = (turns, start_calm, left_none, left_pass, left_end, left_last, left_stall, left_more, held_ready, same_ready, end_is)
 
 -- ---- THE PROMISE IS ONE RESULT: how the rounds ended, and the pressures where they are accepted
 not_both : {n w m o : ℕ} {ps : List ℤ} → solved n w ps ≡ failed m o → ⊥
 not_both h = let z : ◌≡◌ {A = ℕ} 0 1 = cc in omega arith
 
-other_end : {n w m o : ℕ} → Unfinished m o ≡ Accepted n w → ⊥
-other_end h = let z : ◌≡◌ {A = ℕ} 0 1 = cc in omega arith
+same_ends : (m n : Halt) → number_of_end m ≡ number_of_end n → rounds_of_end m ≡ rounds_of_end n → m ≡ n
+same_ends (LimitReached r) (LimitReached s) e f = ap LimitReached f
+same_ends (Stalled r) (Stalled s) e f = ap Stalled f
+same_ends (LimitReached r) (Stalled s) e f = absurd (omega (arith, e))
+same_ends (Stalled r) (LimitReached s) e f = absurd (omega (arith, e))
 
-one_by : (a b : Ended) (ps qs : List ℤ) → end_of a ps ≡ end_of b qs → (a ≡ b) × ((n w : ℕ) → a ≡ Accepted n w → ps ≡ qs)
+one_by : (a b : Result Passed Halt) (ps qs : List ℤ) → end_of a ps ≡ end_of b qs → (a ≡ b) × ((p : Passed) → a ≡ Ok p → ps ≡ qs)
 unfolding end_of
-one_by (Accepted n w) (Accepted m v) ps qs h = (cc, λ i j e. cc)
-one_by (Accepted n w) (Unfinished m o) ps qs h = absurd (not_both h)
-one_by (Unfinished m o) (Accepted n w) ps qs h = absurd (not_both (sym h))
-one_by (Unfinished m o) (Unfinished n v) ps qs h = (cc, λ i j e. absurd (other_end e))
+one_by (Ok p) (Ok q) ps qs h = (ap₂ (λ n w. Ok (record { rounds = n; worst = w })) cc cc, λ i e. cc)
+one_by (Ok p) (Err m) ps qs h = absurd (not_both h)
+one_by (Err m) (Ok p) ps qs h = absurd (not_both (sym h))
+one_by (Err m) (Err n) ps qs h = (ap Err (same_ends m n cc cc), λ i e. cc)
 
-pub end_one : (g : Sides) (ls : List ℕ) (vs : List ℤ) (t : Settings) (a b : Ended) (s u : List Float) → EndOf g ls vs t a s → EndOf g ls vs t b u
-    → (a ≡ b) × ((n w : ℕ) → a ≡ Accepted n w → rounded (cast_of g ls vs) (x_of (cells g) s) ≡ rounded (cast_of g ls vs) (x_of (cells g) u))
+pub end_one : (g : Sides) (ls : List ℕ) (vs : List ℤ) (t : Settings) (a b : Result Passed Halt) (s u : List Float) → EndOf g ls vs t a s → EndOf g ls vs t b u
+    → (a ≡ b) × ((p : Passed) → a ≡ Ok p → rounded (cast_of g ls vs) (x_of (cells g) s) ≡ rounded (cast_of g ls vs) (x_of (cells g) u))
 end_one g ls vs t a b s u p q = one_by a b _ _ (sym p.is ∙ q.is)

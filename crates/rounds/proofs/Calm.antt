@@ -9,8 +9,7 @@ use lib.ListN.{length, take, drop}
 use lib.Ieee.{Float}
 use Rattle.method.specs.declared.Sides.{Sides}
 use Rattle.method.specs.declared.Scalars.{Scalars}
-use Rattle.method.specs.declared.Step.{Step}
-use Rattle.method.specs.declared.Step.TheVariants.{Go, Stalled}
+use Rattle.std.specs.Prelude.{Result, Ok, Err}
 use Rattle.method.specs.Cast.{cells}
 use Rattle.method.specs.Rounds.{finite, usable, step}
 use Rattle.theory.specs.Quiet.{Quiet}
@@ -74,14 +73,14 @@ pub advanced_calm : {g : Sides} {ls : List ℕ} {alpha : Float} {k s : List Floa
 advanced_calm h a = record { x = rw a.x (quiet_in_air _); p = rw a.p h.p; r = rw a.r (quiet_in_air _) }
 
 -- ---- a step goes by a finite alpha
-stall_not : {a b : Float} → Stalled a ≡ Go b → ⊥
+stall_not : {a b : Float} → Err a ≡ Ok b → ⊥
 stall_not h = let z : ◌≡◌ {A = ℕ} 0 1 = cc in omega arith
 
-pub go_finite : (q : Scalars) (w : Step) (alpha : Float) → w ≡ step q → w ≡ Go alpha → finite alpha ≡ true
+pub go_finite : (q : Scalars) (w : Result Float Float) (alpha : Float) → w ≡ step q → w ≡ Ok alpha → finite alpha ≡ true
 unfolding step
 go_finite q w alpha u h = go (usable q.rho) (usable q.sigma) (finite q.alpha) refl (sym u ∙ h)
   where
-    go : (a b c : Bool) → finite q.alpha ≡ c → cond a (cond b (cond c (Go q.alpha) (Stalled q.alpha)) (Stalled q.sigma)) (Stalled q.rho) ≡ Go alpha → finite alpha ≡ true
+    go : (a b c : Bool) → finite q.alpha ≡ c → cond a (cond b (cond c (Ok q.alpha) (Err q.alpha)) (Err q.sigma)) (Err q.rho) ≡ Ok alpha → finite alpha ≡ true
     go true true true e y = let same : q.alpha ≡ alpha = cc in ap finite (sym same) ∙ e
     go true true false e y = absurd (stall_not y)
     go true false c e y = absurd (stall_not y)

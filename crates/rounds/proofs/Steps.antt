@@ -6,7 +6,7 @@ use borrow.Author.Rules.{rules}
 use lib.Ieee.{Float, lt}
 use Rattle.laws.specs.Binary64.{◌⊘◌, +0}
 use Rattle.method.specs.declared.Scalars.{Scalars}
-use Rattle.method.specs.declared.Step.TheVariants.{Go, Stalled}
+use Rattle.std.specs.Prelude.{Ok, Err}
 use Rattle.method.specs.Rounds.{finite, usable, step, beta_of}
 
 -- usable, by whether it is finite
@@ -21,21 +21,21 @@ module _ (x : Float) (b : Bool) (e : b ≡ finite x) where
 
 -- the step, branch by branch
 module _ (q : Scalars) (r : Bool) (er : r ≡ usable q.rho) where
-  pub step_rho : r ≡ false → Stalled q.rho ≡ step q
+  pub step_rho : r ≡ false → Err q.rho ≡ step q
   unfolding step
   step_rho h = rw (sym er ∙ h)
 
   module _ (s : Bool) (es : s ≡ usable q.sigma) where
-    pub step_sigma : r ≡ true → s ≡ false → Stalled q.sigma ≡ step q
+    pub step_sigma : r ≡ true → s ≡ false → Err q.sigma ≡ step q
     unfolding step
     step_sigma h k = rw (sym er ∙ h, sym es ∙ k)
 
     module _ (a : Bool) (ea : a ≡ finite q.alpha) where
-      pub step_alpha : r ≡ true → s ≡ true → a ≡ false → Stalled q.alpha ≡ step q
+      pub step_alpha : r ≡ true → s ≡ true → a ≡ false → Err q.alpha ≡ step q
       unfolding step
       step_alpha h k l = rw (sym er ∙ h, sym es ∙ k, sym ea ∙ l)
 
-      pub step_go : r ≡ true → s ≡ true → a ≡ true → Go q.alpha ≡ step q
+      pub step_go : r ≡ true → s ≡ true → a ≡ true → Ok q.alpha ≡ step q
       unfolding step
       step_go h k l = rw (sym er ∙ h, sym es ∙ k, sym ea ∙ l)
 

@@ -1,5 +1,5 @@
 -- What the room of a round holds, and what each part of a round makes of it.
-use Rattle.std.specs.Prelude.{ℕ, ◌+◌, ◌-◌, ◌*◌, ◌≤◌, ◌<◌, ◌≡◌, List, length, ℤ, Float}
+use Rattle.std.specs.Prelude.{ℕ, ◌+◌, ◌-◌, ◌*◌, ◌≤◌, ◌<◌, ◌≡◌, List, length, ℤ, Float, Result}
 use Rattle.laws.specs.Binary64.{◌⊕◌, ◌⊖◌, ◌⊗◌, +0}
 use Rattle.method.specs.declared.Sides.{Sides}
 use Rattle.method.specs.declared.Settings.{Settings}
@@ -10,7 +10,8 @@ use Rattle.method.specs.Cycle.{applied, cycle}
 use Rattle.method.specs.Ticks.{rounded}
 use Rattle.method.specs.Rounds.{State, dot, beta_of, direction, scalars, run, start}
 use Rattle.theory.specs.Quiet.{Quiet}
-use Rattle.answers.specs.declared.Ended.{Ended}
+use Rattle.answers.specs.declared.Passed.{Passed}
+use Rattle.answers.specs.declared.Halt.{Halt}
 use Rattle.answers.specs.Ends.{end_of}
 use Rattle.levels.specs.Levels.{base}
 use Rattle.bands.specs.AllLists.{base_labels}
@@ -128,9 +129,9 @@ pub record Ready (g : Sides) (ls : List ℕ) (vs : List ℤ) (t : Settings) (pla
   pub limit : t.rounds ≤ 1000
 
 -- the rounds end as document 01's, from the state that room e holds, as a says and with the x of room s
-pub record RunOf (g : Sides) (ls : List ℕ) (vs : List ℤ) (t : Settings) (e : List Float) (a : Ended) (s : List Float) : Type 0 where
+pub record RunOf (g : Sides) (ls : List ℕ) (vs : List ℤ) (t : Settings) (e : List Float) (a : Result Passed Halt) (s : List Float) : Type 0 where
   pub is : run (cast_of g ls vs) t t.rounds (state_of (cells g) 0 +0 e) ≡ end_of a (rounded (cast_of g ls vs) (x_of (cells g) s))
 
 -- THE PROMISE: the same from the start
-pub record EndOf (g : Sides) (ls : List ℕ) (vs : List ℤ) (t : Settings) (a : Ended) (s : List Float) : Type 0 where
+pub record EndOf (g : Sides) (ls : List ℕ) (vs : List ℤ) (t : Settings) (a : Result Passed Halt) (s : List Float) : Type 0 where
   pub is : run (cast_of g ls vs) t t.rounds (start (cast_of g ls vs)) ≡ end_of a (rounded (cast_of g ls vs) (x_of (cells g) s))

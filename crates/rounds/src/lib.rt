@@ -12,10 +12,10 @@ ghost use Rattle.cg_fields.specs.Fields.{Held, x_of, t_of};
 ghost use Rattle.acceptance.specs.Trial.{tested};
 ghost use Rattle.rounds.specs.Rounds.{cast_of, Calm, Advanced, Ready, RunOf, EndOf};
 
-use answers::Ended;
+use answers::{Halt, Passed};
 use bands::lists::Lists;
 use levels::sides::Levels;
-use method::{Settings, Sides, Step};
+use method::{Settings, Sides};
 use scalars::{scalars_of, step_of};
 
 // What a cycle needs beside its rooms: where the levels and their lists stand, and how many levels are used.
@@ -33,7 +33,7 @@ fn test_x(
     values: &[i32],
     g: Sides,
     settings: Settings,
-) -> acceptance::Tested
+) -> Option<u32>
     requires { Held g labels.now room.now × ((length values.now ≡ cells g) × (settings.tolerance ≤ 1000000)) }
     ensures { result ≡ tested (cast_of g labels.now values.now) settings (x_of (cells g) room.now) }
 {
@@ -65,35 +65,30 @@ fn rounds(
     values: &[i32],
     settings: Settings,
     g: Sides,
-) -> Ended
+) -> Result<Passed, Halt>
     requires ready { Ready g labels.now values.now settings plan bytes.now words.now (length room.old) }
     requires calm { Calm g labels.now room.old }
     ensures { RunOf g labels.now values.now settings room.old result room.new }
 {
-    let mut done = 0;
+    let rounds = settings.rounds;
     let mut rho = 0.0;
-    while done < settings.rounds {
-        match test_x(&room[..], labels, values, g, settings) {
-            acceptance::Tested::Passed(worst) => {
-                return Ended::Accepted(done, worst);
-            }
-            acceptance::Tested::Failed => {}
+    for done in 0..rounds {
+        if let Some(worst) = test_x(&room[..], labels, values, g, settings) {
+            return Ok(Passed {
+                rounds: done,
+                worst,
+            });
         }
         let q = scalars_of(room, bytes, words, plan, labels, g, done, rho);
         match step_of(q) {
-            Step::Stalled(_) => {
-                return Ended::Unfinished(9, done);
-            }
-            Step::Go(alpha) => {
-                move_on(room, labels, g, alpha);
-            }
+            Err(_) => return Err(Halt::Stalled(done)),
+            Ok(alpha) => move_on(room, labels, g, alpha),
         }
         rho = q.rho;
-        done += 1;
     }
     match test_x(&room[..], labels, values, g, settings) {
-        acceptance::Tested::Passed(worst) => Ended::Accepted(done, worst),
-        acceptance::Tested::Failed => Ended::Unfinished(8, done),
+        Some(worst) => Ok(Passed { rounds, worst }),
+        None => Err(Halt::LimitReached(rounds)),
     }
 }
 
@@ -107,7 +102,7 @@ pub fn run(
     values: &[i32],
     settings: Settings,
     g: Sides,
-) -> Ended
+) -> Result<Passed, Halt>
     requires { Ready g labels.now values.now settings plan bytes.now words.now (length room.old) }
     ensures { EndOf g labels.now values.now settings result room.new }
 {

@@ -10,32 +10,30 @@ ghost use Rattle.rounds.specs.Rounds.{below, plan_sides, plan_labels, Prepared, 
 
 use crate::Plan;
 use cg_fields::entries::is_finite;
-use method::{Scalars, Sides, Step};
+use method::{Scalars, Sides};
+use smooth::Lattice;
 
 // Whether a number is finite and above 0.
 fn is_usable(x: f64) -> bool
     ensures { result ≡ usable x }
 {
-    if is_finite(x) { 0.0 < x } else { false }
+    is_finite(x) && 0.0 < x
 }
 
 // Alpha, or the first scalar that stalls the round: rho and sigma must be finite and above 0, alpha finite.
-pub(crate) fn step_of(q: Scalars) -> Step
+pub(crate) fn step_of(q: Scalars) -> Result<f64, f64>
     ensures { result ≡ step q }
 {
-    let rho = q.rho;
-    let sigma = q.sigma;
-    let alpha = q.alpha;
-    if is_usable(rho) {
-        if is_usable(sigma) {
-            if is_finite(alpha) {
-                return Step::Go(alpha);
-            }
-            return Step::Stalled(alpha);
-        }
-        return Step::Stalled(sigma);
+    if !is_usable(q.rho) {
+        return Err(q.rho);
     }
-    Step::Stalled(rho)
+    if !is_usable(q.sigma) {
+        return Err(q.sigma);
+    }
+    if !is_finite(q.alpha) {
+        return Err(q.alpha);
+    }
+    Ok(q.alpha)
 }
 
 // New rho over old rho; the first round has none.
@@ -90,12 +88,9 @@ fn apply(room: &mut [f64], bytes: &[u8], words: &[u32], plan: Plan, labels: &[u8
 {
     let s = plan.lists;
     let air = cycle::level_air(words, s, 0);
-    let n = labels.len();
-    let nx = g.nx as usize;
-    let plane = nx * (g.ny as usize);
-    let zero = room.len() - 1;
+    let lattice = Lattice::of(g, labels.len(), room.len());
     cycle::end_in_zero(room);
-    cg_fields::entries::apply(room, air, n, nx, plane, zero);
+    cg_fields::entries::apply(room, air, lattice);
 }
 
 // A p in t, and sigma = p·A p.

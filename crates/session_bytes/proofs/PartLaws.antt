@@ -1,18 +1,15 @@
 -- Laws of the parts of a session that are put: lines, header, values. Assumes nothing.
-use mathlib.Core.Path.{◌≡◌, refl, sym, ap, ap₂, ◌∙◌}
-use mathlib.Core.List.{List, [], ◌∷◌, ◌++◌, append_assoc, append-nil, flat_map}
-use Prim.Native.Nat.{ℕ, suc, ◌+◌, ◌*◌, ◌/◌, ◌%◌, ◌^◌, ◌≤◌, ◌<◌}
-use native.Mathlib.Nat.{div-one}
-use native.Mathlib.Numerals.{add-one}
+use mathlib.Core.Path.{◌≡◌, refl, ◌∙◌}
+use mathlib.Core.List.{List, [], ◌∷◌, ◌++◌, append_assoc, flat_map}
+use Prim.Native.Nat.{ℕ, ◌+◌, ◌*◌, ◌≤◌}
 use native.Mathlib.Omega.{arith}
 use borrow.Author.Rules.{rules}
-use lib.ListN.{length, get_or, take, set, length-append}
-use lib.Seq.{take-suc, take_all, length-take-le}
-use lib.IntN.{ℤ, pos}
-use lib.Signed.{mag}
+use lib.ListN.{length, length-append}
+use lib.IntN.{ℤ, pos, negsuc}
 use mir.Syntax.{w32}
 use mir.Val.{SFits, to_z, of_z}
 use mir.Facts.{to_z-of_z}
+use Rattle.std.specs.Int.{to_be_bytes, to_le_bytes}
 use Rattle.laws.specs.Text.{text}
 use Rattle.method.specs.declared.Sides.{Sides}
 use Rattle.method.specs.declared.Settings.{Settings}
@@ -21,7 +18,7 @@ use Rattle.method.specs.declared.Order.TheVariants.{Big, Little}
 use Rattle.method.specs.Numbers.{decimal}
 use Rattle.method.specs.Form.{line, order_word, header_written, in_order, four_bytes, word_of, value_written, written}
 use Rattle.text_out.specs.Puts.{Put}
-use Rattle.text_out.proofs.PutLaws.{put_length, put_then, all_put, first_room, second_room, third_room}
+use Rattle.text_out.proofs.PutLaws.{all_put, first_room, second_room, third_room}
 use Rattle.session_bytes.specs.Lengths.{three_lines}
 
 -- three lines
@@ -88,24 +85,22 @@ unfolding line order_word
 order_put_little o a b i j e p = rw e p
 
 -- ---- values
-pub four_put : (l : List ℕ) (at a b c d : ℕ) → Put (a ∷ b ∷ c ∷ d ∷ []) l at (set (set (set (set l at a) (at + 1) b) (at + 2) c) (at + 3) d) (at + 4)
-four_put l at a b c d = record {
-  is = ap₂ (λ x y. set (set (set (set l at a) x b) y c) (at + 3) d) (omega arith) (omega arith) ∙ ap (λ z. set (set (set (set l at a) (suc at) b) (suc (suc at)) c) z d) (omega arith);
-  next = refl;
-}
+big_bytes : (v : ℤ) → to_be_bytes w32 (of_z w32 v) ≡ value_written Big v
+unfolding value_written in_order four_bytes word_of
+big_bytes (pos n) = refl
+big_bytes (negsuc n) = refl
 
-module _ (v : ℤ) (g : SFits w32 v) (w a b c d : ℕ) (e : w ≡ word_of (to_z w32 (of_z w32 v))) (p : a ≡ w / 16777216 % 256) (q : b ≡ w / 65536 % 256) (r : c ≡ w / 256 % 256) (s : d ≡ w / 1 % 256) where
-  bytes_of : a ∷ b ∷ c ∷ d ∷ [] ≡ four_bytes (word_of v)
-  unfolding four_bytes
-  bytes_of = ap₂ (λ x y. x ∷ y ∷ c ∷ d ∷ []) p q ∙ ap₂ (λ x y. w / 16777216 % 256 ∷ w / 65536 % 256 ∷ x ∷ y ∷ []) r (s ∙ ap (λ x. x % 256) (div-one w)) ∙ ap four_bytes (e ∙ ap word_of (to_z-of_z g))
+little_bytes : (v : ℤ) → to_le_bytes w32 (of_z w32 v) ≡ value_written Little v
+unfolding value_written in_order four_bytes word_of
+little_bytes (pos n) = refl
+little_bytes (negsuc n) = refl
 
-  pub value_big : (o : Order) (x y : List ℕ) (i j : ℕ) → o ≡ Big → Put (a ∷ b ∷ c ∷ d ∷ []) x i y j → Put (value_written o v) x i y j
-  unfolding value_written in_order
-  value_big o x y i j f u = rw (f, ← bytes_of) u
+module _ (o : Order) (v : ℤ) (bytes x y : List ℕ) (i j : ℕ) (f : SFits w32 v) (u : Put bytes x i y j) where
+  pub value_big : o ≡ Big → bytes ≡ to_be_bytes w32 (of_z w32 (to_z w32 (of_z w32 v))) → Put (value_written o v) x i y j
+  value_big e b = rw (e, ← big_bytes v) (rw (to_z-of_z f) at (rw b at u))
 
-  pub value_little : (o : Order) (x y : List ℕ) (i j : ℕ) → o ≡ Little → Put (d ∷ c ∷ b ∷ a ∷ []) x i y j → Put (value_written o v) x i y j
-  unfolding value_written in_order
-  value_little o x y i j f u = rw (f, ← bytes_of) u
+  pub value_little : o ≡ Little → bytes ≡ to_le_bytes w32 (of_z w32 (to_z w32 (of_z w32 v))) → Put (value_written o v) x i y j
+  value_little e b = rw (e, ← little_bytes v) (rw (to_z-of_z f) at (rw b at u))
 
 value_length : (o : Order) (v : ℤ) → length (value_written o v) ≡ 4
 unfolding value_written in_order four_bytes
@@ -116,43 +111,6 @@ pub values_length : (o : Order) (vs : List ℤ) → length (flat_map (value_writ
 unfolding flat_map
 values_length o [] = omega arith
 values_length o (v ∷ vs) = length-append (value_written o v) (flat_map (value_written o) vs) ∙ omega (arith, value_length o v, values_length o vs)
-
-pub flat_append : (f : ℤ → List ℕ) (xs ys : List ℤ) → flat_map f (xs ++ ys) ≡ flat_map f xs ++ flat_map f ys
-unfolding flat_map
-flat_append f [] ys = refl
-flat_append f (x ∷ xs) ys = ap (λ l. f x ++ l) (flat_append f xs ys) ∙ sym (append_assoc (f x) (flat_map f xs) (flat_map f ys))
-
-pub flat_one : (f : ℤ → List ℕ) (x : ℤ) → flat_map f (x ∷ []) ≡ f x
-unfolding flat_map
-flat_one f x = append-nil (f x)
-
--- i values are put
-pub record Valued (o : Order) (vs : List ℤ) (old : List ℕ) (at i : ℕ) (new : List ℕ) (r : ℕ) : Type 0 where
-  pub puts : Put (flat_map (value_written o) (take i vs)) old at new r
-
-pub valued_none : (o : Order) (vs : List ℤ) (old : List ℕ) (at : ℕ) → Valued o vs old at 0 old at
-unfolding flat_map
-valued_none o vs old at = record { puts = record { is = refl; next = omega arith } }
-
-pub valued_more : (o : Order) (vs : List ℤ) (old new next : List ℕ) (at i r q : ℕ) → i < length vs → Valued o vs old at i new r
-    → mag (get_or vs i (pos 0)) < 2 ^ 31 → Put (value_written o (to_z w32 (of_z w32 (get_or vs i (pos 0))))) new r next q
-    → Valued o vs old at (i + 1) next q
-valued_more o vs old new next at i r q l h m p =
-    let e : flat_map (value_written o) (take (i + 1) vs) ≡ flat_map (value_written o) (take i vs) ++ value_written o (get_or vs i (pos 0)) =
-    ap (λ k. flat_map (value_written o) (take k vs)) (add-one i) ∙ ap (flat_map (value_written o)) (take-suc vs i (pos 0) l)
-    ∙ flat_append (value_written o) (take i vs) (get_or vs i (pos 0) ∷ []) ∙ ap (λ x. flat_map (value_written o) (take i vs) ++ x) (flat_one (value_written o) (get_or vs i (pos 0))) in
-    let f : to_z w32 (of_z w32 (get_or vs i (pos 0))) ≡ get_or vs i (pos 0) = to_z-of_z {w = w32} (record { sfits = m }) in
-    record { puts = rw e (put_then h.puts (rw f at p)) }
-
-pub valued_all : (o : Order) (vs : List ℤ) (old new : List ℕ) (at i r : ℕ) → length vs ≤ i → Valued o vs old at i new r → Put (flat_map (value_written o) vs) old at new r
-valued_all o vs old new at i r l h = rw (take_all i vs l) at h.puts
-
-pub valued_room : (o : Order) (vs : List ℤ) (old new : List ℕ) (at i r : ℕ) → i < length vs → at + 4 * length vs ≤ length old → Valued o vs old at i new r → r + 4 ≤ length new
-valued_room o vs old new at i r l m h =
-    omega (arith, h.puts.next, put_length h.puts, values_length o (take i vs), length-take-le i vs (omega arith))
-
-pub valued_length : (o : Order) (vs : List ℤ) (old new : List ℕ) (at i r : ℕ) → Valued o vs old at i new r → length new ≡ length old
-valued_length o vs old new at i r h = put_length h.puts
 
 -- ---- a whole session
 module _ (s : Sides) (o : Order) (t : Settings) (ls : List ℕ) (vs : List ℤ) (a : List ℕ) (r : length (written (record { sides = s; labels = ls; values = vs }) o t) ≤ length a) where
@@ -175,7 +133,7 @@ pub whole_put : (s : Sides) (o : Order) (t : Settings) (ls : List ℕ) (vs : Lis
 unfolding written
 whole_put s o t ls vs a b c d j k m p q u = all_put _ _ _ a b c d 0 j k m p q u
 
-pub ruleset valuing = (rules, value_big, value_little, valued_none, valued_more, valued_all, valued_room, valued_length)
+pub ruleset valuing = (rules, value_big, value_little)
 
 pub ruleset wholes = (rules, whole_first, whole_second, whole_third, whole_put)
 

@@ -8,7 +8,7 @@ use text_out::decimal::digits_of;
 fn three_digits(a: u32, b: u32, c: u32) -> usize
     ensures { ThreeDigits a b c result }
 {
-    digits_of(a as u64) + digits_of(b as u64) + digits_of(c as u64)
+    digits_of(u64::from(a)) + digits_of(u64::from(b)) + digits_of(u64::from(c))
 }
 
 // How many bytes the line of the order has.

@@ -1,14 +1,13 @@
 -- Laws of one line: the key before, the run of digits, the number. Assumes nothing.
 use mathlib.Core.Path.{◌≡◌, refl, sym, ap, ap₂, ◌∙◌}
-use mathlib.Core.Bool.{Bool, true, false, not, ◌&&◌, false≢true}
+use mathlib.Core.Bool.{Bool, true, false, not, cond, ◌&&◌, false≢true}
 use mathlib.Core.List.{List, [], ◌∷◌}
-use mathlib.Core.Option.{Option, none, some}
 use Prim.Native.Nat.{ℕ, zero, suc, ◌+◌, ◌-◌, ◌*◌, ◌^◌, ◌≤◌, ◌<◌}
 use native.Mathlib.Nat.{le_of_suc-le-suc, not-suc-le-zero, pow-succ', pow-le-pow_right, lt_of_lt_of_le}
 use native.Mathlib.Numerals.{add-one}
 use native.Mathlib.Omega.{arith}
 use borrow.Author.Rules.{rules}
-use borrow.Author.Tests.{eq-eqb, ne_eqb, le-leb, lt-leb, leb-true, not-true, not-false}
+use borrow.Author.Tests.{eqb-true, eq-eqb, ne_eqb, le-leb, lt-leb, leb-true, not-true, not-false}
 use lib.Dec.{eqb, leb}
 use mir.Syntax.{w64}
 use mir.Val.{Fits}
@@ -20,39 +19,49 @@ use Rattle.method.specs.Numbers.{digits, is_digit, is_number, value_of}
 use Rattle.method.specs.Form.{after, closed, number_line, order_line}
 use Rattle.method.specs.OldForm.{number_to}
 use Rattle.theory.proofs.Lines.{line_to}
-use Rattle.session_header.specs.Lines.{Starts, left_if, LineOf, line_of, taken}
-use Rattle.session_header.specs.declared.LineRead.{LineRead}
-use Rattle.session_header.specs.declared.LineRead.TheVariants.{NotOfForm, Value}
+use Rattle.std.specs.Prelude.{Option, Some, None}
+use Rattle.std.specs.List.{starts_with, take_while}
+use Rattle.std.specs.Char.{is_ascii_digit}
+use Rattle.std.proofs.lemmas.List.Sums.{take_while-cons}
+use Rattle.session_header.specs.Lines.{LineOf, line_of, taken}
+use Rattle.session_header.specs.declared.Read.{Read}
 
--- ---- the key: its first i bytes stand there
-pub record Ahead (key bytes : List ℕ) (i : ℕ) : Type 0 where
-  pub within : i ≤ length bytes
-  pub is : after key bytes ≡ after (drop i key) (drop i bytes)
+-- ---- the key: what is left of the bytes where it stands before them
+abbrev pub left_if : Bool → ℕ → List ℕ → Option (List ℕ)
+left_if true n bytes = Some (drop n bytes)
+left_if false n bytes = None
 
-pub ahead_none : (key bytes : List ℕ) → Ahead key bytes 0
-ahead_none key bytes = record { within = omega arith; is = refl }
+pub record Starts (key bytes : List ℕ) (r : Bool) : Type 0 where
+  pub is : after key bytes ≡ left_if r (length key) bytes
 
-after_cons : (key bytes : List ℕ) (i : ℕ) → i < length key → i < length bytes → after (drop i key) (drop i bytes)
-    ≡ after (get_or key i 0 ∷ drop (suc i) key) (get_or bytes i 0 ∷ drop (suc i) bytes)
-after_cons key bytes i k l = ap₂ after (drop-cons key i 0 k) (drop-cons bytes i 0 l)
+eqb_sym : (a b : ℕ) → eqb a b ≡ eqb b a
+eqb_sym a b = go (eqb a b) (eqb b a) (λ e. eq-eqb b a (sym (eqb-true a b e))) (λ e. eq-eqb a b (sym (eqb-true b a e)))
+  where
+    go : (s t : Bool) → (s ≡ true → t ≡ true) → (t ≡ true → s ≡ true) → s ≡ t
+    go true true f g = refl
+    go false false f g = refl
+    go true false f g = sym (f refl)
+    go false true f g = g refl
 
-pub ahead_more : (key bytes : List ℕ) (i : ℕ) → i < length key → i < length bytes → Ahead key bytes i → get_or bytes i 0 ≡ get_or key i 0 → Ahead key bytes (i + 1)
+left_on : (t : Bool) (n b : ℕ) (bs : List ℕ) → left_if t n bs ≡ left_if t (suc n) (b ∷ bs)
+left_on true n b bs = refl
+left_on false n b bs = refl
+
+after_is : (key bytes : List ℕ) → after key bytes ≡ left_if (starts_with eqb bytes key) (length key) bytes
 unfolding after
-ahead_more key bytes i k l h e = record { within = omega arith; is = h.is ∙ after_cons key bytes i k l ∙ rw (after, eq-eqb (get_or bytes i 0) (get_or key i 0) e, add-one i) }
+after_is [] bytes = refl
+after_is (k ∷ ks) [] = refl
+after_is (k ∷ ks) (b ∷ bs) = go (eqb b k) (eqb k b) (eqb_sym b k) (after_is ks bs)
+  where
+    go : (s t : Bool) → s ≡ t → after ks bs ≡ left_if (starts_with eqb bs ks) (length ks) bs → ◌≡◌ {A = Option (List ℕ)} (elim s [ true ↦ after ks bs | false ↦ None ])
+        (left_if (t && starts_with eqb bs ks) (suc (length ks)) (b ∷ bs))
+    go true true e f = f ∙ left_on (starts_with eqb bs ks) (length ks) b bs
+    go false false e f = refl
+    go true false e f = absurd (false≢true (sym e))
+    go false true e f = absurd (false≢true e)
 
-pub starts_short : (key bytes : List ℕ) (i : ℕ) → i < length key → length bytes ≤ i → Ahead key bytes i → Starts key bytes false
-unfolding after left_if
-starts_short key bytes i k l h = record { is = h.is ∙ rw (drop-cons key i 0 k, drop_of_length-le bytes {i = i} l) }
-
-pub starts_other : (key bytes : List ℕ) (i : ℕ) → i < length key → i < length bytes → Ahead key bytes i → (get_or bytes i 0 ≡ get_or key i 0 → ⊥) → Starts key bytes false
-unfolding after left_if
-starts_other key bytes i k l h e = record { is = h.is ∙ after_cons key bytes i k l ∙ rw (after, ne_eqb (get_or bytes i 0) (get_or key i 0) e) }
-
-pub starts_all : (key bytes : List ℕ) (i : ℕ) → i ≤ length key → length key ≤ i → Ahead key bytes i → Starts key bytes true
-unfolding after left_if
-starts_all key bytes i k l h =
-    let e : i ≡ length key = omega arith in
-    record { is = h.is ∙ rw (drop_of_length-le key {i = i} l, e) }
+pub starts_as : (key bytes : List ℕ) (r : Bool) → r ≡ starts_with eqb bytes key → Starts key bytes r
+starts_as key bytes r e = record { is = rw e (after_is key bytes) }
 
 -- ---- the run of digits
 abbrev run : Bool → ℕ → List ℕ → List ℕ
@@ -76,31 +85,18 @@ digits_length (b ∷ l) = rw (digits_cons b l) (go (is_digit b) (digits_length l
     go true h = omega arith
     go false h = omega arith
 
-digits_more : (b : ℕ) (l : List ℕ) → is_digit b ≡ true → digits (b ∷ l) ≡ b ∷ digits l
-digits_more b l e = digits_cons b l ∙ ap (λ t. run t b (digits l)) e
+-- the run, as `take_while` has it
+digits_taken : (l : List ℕ) → take_while is_ascii_digit l ≡ digits l
+unfolding digits is_digit between
+digits_taken [] = refl
+digits_taken (b ∷ l) = take_while-cons is_ascii_digit b l ∙ go (is_digit b) (digits_taken l) ∙ sym (digits_cons b l)
+  where
+    go : (t : Bool) → take_while is_ascii_digit l ≡ digits l → cond t (b ∷ take_while is_ascii_digit l) [] ≡ run t b (digits l)
+    go true e = ap (λ ds. b ∷ ds) e
+    go false e = refl
 
-digits_stop : (b : ℕ) (l : List ℕ) → is_digit b ≡ false → digits (b ∷ l) ≡ []
-digits_stop b l e = digits_cons b l ∙ ap (λ t. run t b (digits l)) e
-
--- n digits are passed
-pub record Counted (l : List ℕ) (n : ℕ) : Type 0 where
-  pub is : length (digits l) ≡ n + length (digits (drop n l))
-
-pub counted_none : (l : List ℕ) → Counted l 0
-counted_none l = record { is = omega arith }
-
-pub counted_more : (l : List ℕ) (n : ℕ) (r : Bool) → n < length l → Counted l n → r ≡ is_digit (get_or l n 0) → r ≡ true → Counted l (n + 1)
-counted_more l n r h k e t =
-    let q : digits (drop n l) ≡ get_or l n 0 ∷ digits (drop (n + 1) l) = rw (drop-cons l n 0 h, add-one n) (digits_more (get_or l n 0) (drop (suc n) l) (sym e ∙ t)) in
-    record { is = omega (arith, k.is, ap length q) }
-
-pub counted_stop : (l : List ℕ) (n : ℕ) (r : Bool) → n < length l → Counted l n → r ≡ is_digit (get_or l n 0) → r ≡ false → n ≡ length (digits l)
-counted_stop l n r h k e t =
-    let q : digits (drop n l) ≡ [] = rw (drop-cons l n 0 h) (digits_stop (get_or l n 0) (drop (suc n) l) (sym e ∙ t)) in
-    omega (arith, k.is, ap length q)
-
-pub counted_end : (l : List ℕ) (n : ℕ) → length l ≤ n → Counted l n → n ≡ length (digits l)
-counted_end l n h k = omega (arith, k.is, digits_length (drop n l), length-drop n l)
+pub digits_counted : (l : List ℕ) (n : ℕ) → n ≡ length (take_while is_ascii_digit l) → n ≡ length (digits l)
+digits_counted l n e = e ∙ ap length (digits_taken l)
 
 -- what stands at a place of the run
 pub record DigitAt (l : List ℕ) (i : ℕ) (ds : List ℕ) : Type 0 where
@@ -210,29 +206,28 @@ rest_is l k = take_all (length l - k) (drop k l) (omega (arith, length-drop k l)
 
 -- ---- the line of a key and a number
 abbrev given : Option (List ℕ) → List ℕ
-given none = []
-given (some s) = s
+given None = []
+given (Some s) = s
 
 abbrev is_some : Option (List ℕ) → ℕ
-is_some none = 0
-is_some (some s) = 1
+is_some None = 0
+is_some (Some s) = 1
 
-never_some : {s : List ℕ} → none ≡ some s → ⊥
+never_some : {s : List ℕ} → None ≡ Some s → ⊥
 never_some e = omega (arith, ap is_some e)
 
-after_length : (key l s : List ℕ) → after key l ≡ some s → length key + length s ≡ length l
+after_length : (key l s : List ℕ) → after key l ≡ Some s → length key + length s ≡ length l
 unfolding after
 after_length [] l s e = omega (arith, ap (λ o. length (given o)) e)
 after_length (k ∷ ks) [] s e = absurd (never_some e)
 after_length (k ∷ ks) (b ∷ l) s e = go (eqb b k) (λ q. after_length ks l s q) e
   where
-    go : (t : Bool) → (after ks l ≡ some s → length ks + length s ≡ length l) → elim t [ true ↦ after ks l | false ↦ none ] ≡ some s → suc (length ks) + length s ≡ suc (length l)
+    go : (t : Bool) → (after ks l ≡ Some s → length ks + length s ≡ length l) → elim t [ true ↦ after ks l | false ↦ None ] ≡ Some s → suc (length ks) + length s ≡ suc (length l)
     go true f q = omega (arith, f q)
     go false f q = absurd (never_some q)
 
-pub starts_length : (key l : List ℕ) (r : Bool) → Starts key l r → r ≡ true → length key ≤ length l
-unfolding left_if
-starts_length key l r s e = omega (arith, after_length key l (drop (length key) l) (s.is ∙ ap (λ t. left_if t (length key) l) e))
+pub starts_length : (key l : List ℕ) (r : Bool) → r ≡ starts_with eqb l key → r ≡ true → length key ≤ length l
+starts_length key l r s e = omega (arith, after_length key l (drop (length key) l) ((starts_as key l r s).is ∙ ap (λ t. left_if t (length key) l) e))
 
 pub count_within : (l : List ℕ) (n : ℕ) → n ≡ length (digits l) → n ≤ length l
 count_within l n e = omega (arith, digits_length l)
@@ -242,49 +237,35 @@ unfolding is_number between
 number_short l n r d e q =
     rw d (leb-true (length (digits l)) 7 (and_true (leb 1 (length (digits l))) (leb (length (digits l)) 7) (and_true (between 1 7 (length (digits l))) _ (sym e ∙ q)).0).1)
 
--- one byte in front
-pub begins_none : (b : ℕ) (l : List ℕ) → length l ≡ 0 → Starts (b ∷ []) l false
-unfolding after left_if
-begins_none b [] e = record { is = refl }
-begins_none b (x ∷ l) e = absurd (omega arith)
+module _ (x : ℕ) (key l : List ℕ) (r : Bool) (s : r ≡ starts_with eqb l key) where
+  pub line_no_key : r ≡ false → LineOf (number_to (x ∷ []) key) l None
+  unfolding number_to line_of taken
+  line_no_key e = record { is = rw (number_to, (starts_as key l r s).is, e); within = omega arith }
 
-pub begins_with : (b : ℕ) (l : List ℕ) → (length l ≡ 0 → ⊥) → Starts (b ∷ []) l (eqb (get_or l 0 0) b)
-unfolding after left_if
-begins_with b [] h = absurd (h refl)
-begins_with b (x ∷ l) h = record { is = go (eqb x b) }
-  where
-    go : (t : Bool) → elim t [ true ↦ some l | false ↦ none ] ≡ left_if t 1 (x ∷ l)
-    go true = refl
-    go false = refl
-
-module _ (x : ℕ) (key l : List ℕ) where
-  pub line_no_key : (r : Bool) → Starts key l r → r ≡ false → LineOf (number_to (x ∷ []) key) l NotOfForm
-  unfolding number_to line_of taken left_if
-  line_no_key r s e = record { is = rw (number_to, s.is, e); within = omega arith }
-
-  module _ (word end : List ℕ) (n : ℕ) (r q p : Bool) (f : Starts (x ∷ []) end q) (s : Starts key l r) (e : r ≡ true) (m : end ≡ drop n word)
+  module _ (word end : List ℕ) (n : ℕ) (q p : Bool) (f : q ≡ starts_with eqb end (x ∷ [])) (e : r ≡ true) (m : end ≡ drop n word)
       (w : word ≡ drop (length key) l) (d : n ≡ length (digits word)) where
     known : number_to (x ∷ []) key l ≡ closed (digits word) (left_if q 1 end)
-    unfolding number_to left_if
-    known = (rw (number_to, s.is, e, ← w, ← d, ← m)) ∙ ap (closed (digits word)) f.is
+    unfolding number_to
+    known = (rw (number_to, (starts_as key l r s).is, e, ← w, ← d, ← m)) ∙ ap (closed (digits word)) (starts_as (x ∷ []) end q f).is
 
-    pub line_no_end : q ≡ false → LineOf (number_to (x ∷ []) key) l NotOfForm
-    unfolding line_of taken left_if closed
+    pub line_no_end : q ≡ false → LineOf (number_to (x ∷ []) key) l None
+    unfolding line_of taken closed
     line_no_end g = record { is = known ∙ rw (g); within = omega arith }
 
-    pub line_no_number : q ≡ true → p ≡ is_number (digits word) → p ≡ false → LineOf (number_to (x ∷ []) key) l NotOfForm
-    unfolding line_of taken left_if closed
+    pub line_no_number : q ≡ true → p ≡ is_number (digits word) → p ≡ false → LineOf (number_to (x ∷ []) key) l None
+    unfolding line_of taken closed
     line_no_number g h k = record { is = known ∙ rw (g, ← h, k); within = omega arith }
-
-    pub line_number_lem : (v : ℕ) → q ≡ true → p ≡ is_number (digits word) → p ≡ true → v ≡ value_of 0 (digits word) → LineOf (number_to (x ∷ []) key) l (Value v (length key + n + 1))
-    unfolding line_of taken left_if closed
-    line_number_lem v g h k y = record {
-      is = known ∙ rw (g, ← h, k, ← y, m, w, drop-drop n (length key) l, drop-drop 1 (length key + n) l);
-      within = omega (arith, starts_length key l r s e, starts_length (x ∷ []) end q f g, ap length m, length-drop n word, ap length w, length-drop (length key) l);
-    }
 
     within_line : q ≡ true → length key + n + 1 ≤ length l
     within_line g = omega (arith, starts_length key l r s e, starts_length (x ∷ []) end q f g, ap length m, length-drop n word, ap length w, length-drop (length key) l)
+
+    pub line_number_lem : (v : ℕ) → q ≡ true → p ≡ is_number (digits word) → p ≡ true → v ≡ value_of 0 (digits word)
+        → LineOf (number_to (x ∷ []) key) l (Some (record { value = v; taken = length key + n + 1 }))
+    unfolding line_of taken closed
+    line_number_lem v g h k y = record {
+      is = known ∙ rw (g, ← h, k, ← y, m, w, drop-drop n (length key) l, drop-drop 1 (length key + n) l);
+      within = within_line g;
+    }
 
     pub line_fits : q ≡ true → length l < 2 ^ 64 → Fits w64 (length key + n + 1)
     line_fits g h = record { fits = omega (arith, within_line g) }
@@ -293,30 +274,29 @@ module _ (x : ℕ) (key l : List ℕ) where
     word_fits g h = record { fits = omega (arith, within_line g) }
 
 -- a line of a key and a number is one up to a line feed
-pub line_of_to : (key l : List ℕ) (r : LineRead) → LineOf (number_to (10 ∷ []) key) l r → LineOf (number_line key) l r
+pub line_of_to : (key l : List ℕ) (r : Option Read) → LineOf (number_to (10 ∷ []) key) l r → LineOf (number_line key) l r
 line_of_to key l r h = record { is = line_to key l ∙ h.is; within = h.within }
 
 -- ---- the line of the order
-module _ (l : List ℕ) (r q : Bool) (s : Starts (text "order=big\n") l r) where
-  pub order_big : r ≡ true → LineOf order_line l (Value 0 10)
-  unfolding order_line line_of taken left_if
-  order_big e = record { is = rw (order_line, s.is, e); within = starts_length (text "order=big\n") l r s e }
+module _ (l : List ℕ) (r q : Bool) (s : r ≡ starts_with eqb l (text "order=big\n")) where
+  pub order_big : r ≡ true → LineOf order_line l (Some (record { value = 0; taken = 10 }))
+  unfolding order_line line_of taken
+  order_big e = record { is = rw (order_line, (starts_as (text "order=big\n") l r s).is, e); within = starts_length (text "order=big\n") l r s e }
 
-  module _ (f : r ≡ false) (t : Starts (text "order=little\n") l q) where
-    pub order_little : q ≡ true → LineOf order_line l (Value 1 13)
-    unfolding order_line line_of taken left_if
-    order_little e = record { is = rw (order_line, s.is, f, t.is, e); within = starts_length (text "order=little\n") l q t e }
+  module _ (f : r ≡ false) (t : q ≡ starts_with eqb l (text "order=little\n")) where
+    pub order_little : q ≡ true → LineOf order_line l (Some (record { value = 1; taken = 13 }))
+    unfolding order_line line_of taken
+    order_little e = record {
+      is = rw (order_line, (starts_as (text "order=big\n") l r s).is, f, (starts_as (text "order=little\n") l q t).is, e);
+      within = starts_length (text "order=little\n") l q t e;
+    }
 
-    pub order_none : q ≡ false → LineOf order_line l NotOfForm
-    unfolding order_line line_of taken left_if
-    order_none e = record { is = rw (order_line, s.is, f, t.is, e); within = omega arith }
-
-pub ruleset keys = (rules, ahead_none, ahead_more, starts_short, starts_other, starts_all)
-
-pub ruleset runs = (rules, not-true, not-false, counted_none, counted_more, counted_stop, counted_end)
+    pub order_none : q ≡ false → LineOf order_line l None
+    unfolding order_line line_of taken
+    order_none e = record { is = rw (order_line, (starts_as (text "order=big\n") l r s).is, f, (starts_as (text "order=little\n") l q t).is, e); within = omega arith }
 
 pub ruleset numbers = (rules, valued_none, valued_more, valued_small, valued_end, is_digit_lem, in_run)
 
 pub ruleset forms = (rules, number_none, number_long, number_one, number_rest, first_in)
 
-pub ruleset lines = (rules, not-true, not-false, starts_length, count_within, number_short, begins_none, begins_with, line_of_to, line_no_key, line_no_end, line_no_number, line_number_lem, line_fits, word_fits, order_big, order_little, order_none)
+pub ruleset lines = (rules, not-true, not-false, starts_length, digits_counted, count_within, number_short, line_of_to, line_no_key, line_no_end, line_no_number, line_number_lem, line_fits, word_fits, order_big, order_little, order_none)

@@ -10,19 +10,20 @@ ghost use Rattle.session_header.specs.Lines.{ThreeOf, OnFrom, HeaderOf};
 use line::{number_line, order_line, rest};
 use method::{Order, Settings, Sides};
 
-// One line, read: not of the form, or its value and how many bytes it took.
+// A line that is of the form: its value and how many bytes it took.
 #[derive(Clone, Copy)]
-pub enum LineRead {
-    NotOfForm,
-    Value(u32, usize),
+pub struct Read {
+    pub value: u32,
+    pub taken: usize,
 }
 
-// Three lines of numbers, read: the number of the first that is not of the form, or the values and how many bytes they
-// took.
+// Three lines of numbers that are of the form: their values and how many bytes they took.
 #[derive(Clone, Copy)]
-enum ThreeRead {
-    Wrong(u32),
-    Values(u32, u32, u32, usize),
+struct Three {
+    x: u32,
+    y: u32,
+    z: u32,
+    taken: usize,
 }
 
 // What the seven lines name, and where the body starts.
@@ -34,30 +35,22 @@ pub struct Header {
     pub start: usize,
 }
 
-// The seven lines, read: the number of the first that is not of the form, or what they name.
-#[derive(Clone, Copy)]
-pub enum HeaderRead {
-    Wrong(u32),
-    Named(Header),
-}
-
-// Three lines of numbers, the first of which has the number `first`.
-fn three_lines(bytes: &[u8], first: u32, a: &[u8], b: &[u8], c: &[u8]) -> ThreeRead
+// Three lines of numbers, the first of which has the number `first`, or the number of the first that is not of the form.
+fn three_lines(bytes: &[u8], first: u32, a: &[u8], b: &[u8], c: &[u8]) -> Result<Three, u32>
     requires { first ≤ 5 }
     ensures { ThreeOf first a.now b.now c.now bytes.now result }
 {
-    let LineRead::Value(x, i) = number_line(bytes, a) else {
-        return ThreeRead::Wrong(first);
-    };
-    let second = rest(bytes, i);
-    let LineRead::Value(y, j) = number_line(second, b) else {
-        return ThreeRead::Wrong(first + 1);
-    };
-    let third = rest(second, j);
-    let LineRead::Value(z, k) = number_line(third, c) else {
-        return ThreeRead::Wrong(first + 2);
-    };
-    ThreeRead::Values(x, y, z, i + j + k)
+    let x = number_line(bytes, a).ok_or(first)?;
+    let second = rest(bytes, x.taken);
+    let y = number_line(second, b).ok_or(first + 1)?;
+    let third = rest(second, y.taken);
+    let z = number_line(third, c).ok_or(first + 2)?;
+    Ok(Three {
+        x: x.value,
+        y: y.value,
+        z: z.value,
+        taken: x.taken + y.taken + z.taken,
+    })
 }
 
 // The order that the value of its line stands for.
@@ -68,40 +61,37 @@ pub fn order_of(v: u32) -> Order
 }
 
 // The line of the order and those of the settings, after the sides and the i bytes that they took.
-fn after_sides(bytes: &[u8], i: usize, sides: Sides) -> HeaderRead
+fn after_sides(bytes: &[u8], i: usize, sides: Sides) -> Result<Header, u32>
     requires { i ≤ length bytes.now }
     ensures { OnFrom bytes.now i sides result }
 {
     let fourth = rest(bytes, i);
-    let LineRead::Value(o, j) = order_line(fourth) else {
-        return HeaderRead::Wrong(4);
+    let o = order_line(fourth).ok_or(4u32)?;
+    let fifth = rest(fourth, o.taken);
+    let three = three_lines(fifth, 5, b"tolerance=", b"levels=", b"rounds=")?;
+    let order = order_of(o.value);
+    let settings = Settings {
+        tolerance: three.x,
+        levels: three.y,
+        rounds: three.z,
     };
-    let fifth = rest(fourth, j);
-    match three_lines(fifth, 5, b"tolerance=", b"levels=", b"rounds=") {
-        ThreeRead::Wrong(k) => HeaderRead::Wrong(k),
-        ThreeRead::Values(tolerance, levels, rounds, k) => {
-            let order = order_of(o);
-            let settings = Settings {
-                tolerance,
-                levels,
-                rounds,
-            };
-            HeaderRead::Named(Header {
-                sides,
-                order,
-                settings,
-                start: i + j + k,
-            })
-        }
-    }
+    Ok(Header {
+        sides,
+        order,
+        settings,
+        start: i + o.taken + three.taken,
+    })
 }
 
-// The seven lines, from the front of the bytes.
-pub fn read_header(bytes: &[u8]) -> HeaderRead
+// The seven lines, from the front of the bytes, or the number of the first that is not of the form.
+pub fn read_header(bytes: &[u8]) -> Result<Header, u32>
     ensures { HeaderOf bytes.now result }
 {
-    match three_lines(bytes, 1, b"nx=", b"ny=", b"nz=") {
-        ThreeRead::Wrong(k) => HeaderRead::Wrong(k),
-        ThreeRead::Values(nx, ny, nz, i) => after_sides(bytes, i, Sides { nx, ny, nz }),
-    }
+    let three = three_lines(bytes, 1, b"nx=", b"ny=", b"nz=")?;
+    let sides = Sides {
+        nx: three.x,
+        ny: three.y,
+        nz: three.z,
+    };
+    after_sides(bytes, three.taken, sides)
 }

@@ -12,7 +12,7 @@ use lib.ListN.{length, get_or, take, drop, length-drop, length-replicate}
 use lib.Seq.{get_or-take}
 use Rattle.laws.specs.Lists.{tab}
 use Rattle.laws.proofs.Lists.{get_or_tab}
-use Rattle.method.specs.declared.Found.TheVariants.{Nowhere}
+use Rattle.std.specs.Prelude.{Bool, false, None, Result, Ok, Err, MatchResult, IsErrAnd}
 use Rattle.method.specs.Cast.{cells, sides_fit, settings_fit, label_at, widest, first, bad_label, bad_value}
 use Rattle.method.specs.Form.{header, bad_line, labels_in, values_in, cast_in}
 use Rattle.method.specs.Form as form
@@ -24,17 +24,14 @@ use Rattle.session_values.specs.Body.{value_in, bad_value_in}
 use Rattle.theory.proofs.Firsts.{first_cong}
 use Rattle.theory.specs.Sides.{Fit}
 use Rattle.theory.proofs.Sides.{fit}
-use Rattle.session_read.specs.Reads.{asked, verdict_of, Sized, Bodied, size_ruling, body_ruling, content_ruling, ReadyIf, JudgedOf}
-use Rattle.checks.specs.Rulings.{ruling_of, ruling_by, first_of}
-use Rattle.checks.specs.declared.Ruling.{Ruling}
-use Rattle.checks.specs.declared.Ruling.TheVariants.{Refused as Refusedᴿ, Allowed}
-use Rattle.theory.proofs.Verdicts.{fails_at, passes_on, fault_no, no_fault}
-use Rattle.checks.proofs.RuleLaws.{ruling_more, ruling_last, ruling_in, ruling_in_lem, first_assoc, both_allowed, ruled_none}
+use Rattle.session_read.specs.Reads.{asked, verdict_of, Sized, Bodied, size_ruling, content_ruling, ReadyIf, JudgedOf}
+use Rattle.checks.specs.Rulings.{ruling_of, unless, first_of}
+use Rattle.answers.specs.declared.Fault.{Fault}
+use Rattle.answers.specs.declared.Fault.TheVariants.{SideOutOfRange, WrongLength, SettingOutOfRange, BadLabel, BadValue, BadLine, BadBody}
+use Rattle.theory.proofs.Verdicts.{fails_at, passes_on, fault_no}
+use Rattle.checks.proofs.RuleLaws.{side_is, length_is, setting_is, label_is, value_is, body_is, ruling_more, ruling_last, test_more, test_ends, test_passes, both_allowed, ruled_well}
 use Rattle.session_read.proofs.SizeLaws.{cells_few, short_by}
 use Rattle.session_header.specs.declared.Header.{Header}
-use Rattle.session_header.specs.declared.HeaderRead.{HeaderRead}
-use Rattle.session_header.specs.declared.HeaderRead.TheVariants.{Wrong, Named}
-use Rattle.session_read.specs.declared.Judged.TheVariants.{Refused, Passed}
 
 -- ---- checks 3, 4, 5 of a header
 module _ (H : form.Header) (n : ℕ) (e : n ≡ cells H.sides) (l : n ≤ length H.body) where
@@ -68,11 +65,12 @@ module _ (bytes : List ℕ) (h : Header) (n : ℕ) (z : Sized bytes h n) where
       ap (λ H. bad_value H.sides (labels_in H) (values_in H)) z.is ∙ value_fault_lem (named bytes h) n z.cells (omega (arith, z.long))
       ∙ ap (λ l. first (bad_value_in l n h.order) n) (sym b)
 
-  pub content_ruled : (body : List ℕ) (o : Ruling) → o ≡ content_ruling h.settings body n h.order → body ≡ drop h.start bytes → verdict content_checks (asked bytes 0) ≡ ruling_of o
-  unfolding content_checks cast_in content_ruling body_ruling
+  pub content_ruled : (body : List ℕ) (o : Result (Unit {0}) Fault) → o ≡ content_ruling h.settings body n h.order → body ≡ drop h.start bytes → verdict content_checks (asked bytes 0) ≡ ruling_of o
+  unfolding content_checks cast_in
   content_ruled body o e b =
-      ruling_more _ _ (asked bytes 0) (fault (not (settings_fit h.settings))) _ (ap (λ t. fault (not t)) settings_of)
-      (ruling_more _ _ (asked bytes 0) (first (bad_label_at body) n) _ (labels_of_lem body b) (ruling_last _ (asked bytes 0) (first (bad_value_in body n h.order) n) (values_of body b)))
+      test_more _ SettingOutOfRange setting_is _ (asked bytes 0) (settings_fit h.settings) _ (ap (λ t. fault (not t)) settings_of)
+      (ruling_more _ BadLabel label_is _ (asked bytes 0) (first (bad_label_at body) n) _ (labels_of_lem body b)
+      (ruling_last _ BadValue value_is (asked bytes 0) (first (bad_value_in body n h.order) n) (values_of body b)))
       ∙ ap ruling_of (sym e)
 
   pub body_long : (body : List ℕ) → body ≡ drop h.start bytes → 5 * n ≤ length body
@@ -87,7 +85,7 @@ unfolding verdict content_checks
 content_same bytes room = refl
 
 -- checks 1 and 11, of what the header names
-module _ (bytes : List ℕ) (room : ℕ) (h : Header) (z : HeaderOf bytes (Named h)) where
+module _ (bytes : List ℕ) (room : ℕ) (h : Header) (z : HeaderOf bytes (Ok h)) where
   named_is : header bytes ≡ named bytes h
   unfolding header_in
   named_is = z.is
@@ -96,7 +94,7 @@ module _ (bytes : List ℕ) (room : ℕ) (h : Header) (z : HeaderOf bytes (Named
   unfolding start_in
   start_within = z.within
 
-  no_line : bad_line bytes ≡ Nowhere
+  no_line : bad_line bytes ≡ None
   unfolding wrong_in
   no_line = z.line
 
@@ -106,26 +104,25 @@ module _ (bytes : List ℕ) (room : ℕ) (h : Header) (z : HeaderOf bytes (Named
   long_of : eqb (length (header bytes).body) (5 * cells (header bytes).sides) ≡ eqb (length bytes - h.start) (5 * cells h.sides)
   long_of = ap (λ H. eqb (length H.body) (5 * cells H.sides)) named_is ∙ ap (λ k. eqb k (5 * cells h.sides)) (length-drop h.start bytes)
 
-  module _ (r : Ruling) (e : r ≡ size_ruling h.sides (length bytes - h.start)) where
-    -- the first two are these, whatever comes after
-    by_sizes : (rest : Ruling) → verdict (room_check ∷ content_checks) (asked bytes room) ≡ ruling_of rest → verdict reader_checks (asked bytes room) ≡ ruling_of (first_of r rest)
-    unfolding reader_checks line_check side_check body_check size_ruling
-    by_sizes rest k =
-        passes_on _ _ (asked bytes room) no_line
-        ∙ ruling_more _ _ (asked bytes room) (fault (not (sides_fit h.sides))) _ (ap (λ t. fault (not t)) sides_of_lem)
-        (ruling_more _ _ (asked bytes room) (fault (not (eqb (length bytes - h.start) (5 * cells h.sides)))) rest (ap (λ t. fault (not t)) long_of) k)
-        ∙ ap ruling_of (sym (first_assoc _ _ rest) ∙ ap (λ x. first_of x rest) (sym e))
+  -- the first two are these, whatever comes after
+  sizes_end : (f g : Bool) (e : Fault) → sides_fit h.sides ≡ f → eqb (length bytes - h.start) (5 * cells h.sides) ≡ g → first_of (unless SideOutOfRange f) (unless BadBody g) ≡ Err e
+      → verdict (side_check ∷ body_check ∷ room_check ∷ content_checks) (asked bytes room) ≡ ruling_of (Err e)
+  unfolding side_check body_check
+  sizes_end true g e a b q =
+      test_passes _ SideOutOfRange _ (asked bytes room) true (ap (λ t. fault (not t)) (sides_of_lem ∙ a)) refl
+      ∙ test_ends _ BadBody e body_is _ (asked bytes room) g (ap (λ t. fault (not t)) (long_of ∙ b)) q
+  sizes_end false g e a b q = test_ends _ SideOutOfRange e side_is _ (asked bytes room) false (ap (λ t. fault (not t)) (sides_of_lem ∙ a)) q
 
-    pub sizes_refused : (num place : ℕ) → r ≡ Refusedᴿ num place → JudgedOf bytes room (Refused num place)
-    unfolding verdict_of ruling_of ReadyIf first_of
-    sizes_refused num place d = let v = verdict (room_check ∷ content_checks) (asked bytes room) in record { is = by_sizes (ruling_in v) (ruling_in_lem v) ∙ ap (λ x. ruling_of (first_of x (ruling_in v))) d; ready = tt }
+  module _ (r : Result (Unit {0}) Fault) (e : r ≡ size_ruling h.sides (length bytes - h.start)) where
+    pub sizes_refused : (d : Fault) → r ≡ Err d → JudgedOf bytes room (Err d)
+    unfolding reader_checks line_check verdict_of ReadyIf
+    sizes_refused d q = record { is = passes_on _ _ (asked bytes room) no_line ∙ sizes_end _ _ d refl refl (sym e ∙ q); ready = tt }
 
-    pub sizes_bodied : r ≡ Allowed → Bodied bytes h
-    unfolding size_ruling
+    pub sizes_bodied : r ≡ Ok tt → Bodied bytes h
     sizes_bodied d =
-        let p = both_allowed (ruling_by 1 (fault (not (sides_fit h.sides)))) _ (sym e ∙ d) in
-        let f : sides_fit h.sides ≡ true = no_fault (sides_fit h.sides) (ruled_none 1 _ p.0) in
-        let g : eqb (length bytes - h.start) (5 * cells h.sides) ≡ true = no_fault _ (ruled_none 11 _ p.1) in
+        let p = both_allowed (unless SideOutOfRange (sides_fit h.sides)) _ (sym e ∙ d) in
+        let f : sides_fit h.sides ≡ true = ruled_well SideOutOfRange (sides_fit h.sides) p.0 in
+        let g : eqb (length bytes - h.start) (5 * cells h.sides) ≡ true = ruled_well BadBody _ p.1 in
         record {
           line = no_line;
           sized = record {
@@ -147,7 +144,7 @@ module _ (bytes : List ℕ) (room : ℕ) (h : Header) (z : Bodied bytes h) where
     pub bodied_sized : Sized bytes h n
     bodied_sized = rw c z.sized
 
-    module _ (p q o : Ruling) (eo : o ≡ first_of p q) (ep : p ≡ ruling_by 2 (fault (not (leb n room)))) (eq : verdict content_checks (asked bytes 0) ≡ ruling_of q) where
+    module _ (p : Result (Unit {0}) Fault) (ep : p ≡ unless WrongLength (leb n room)) where
       short : room_check.fails (asked bytes room) ≡ fault (not (leb n room))
       unfolding room_check
       short =
@@ -161,26 +158,36 @@ module _ (bytes : List ℕ) (room : ℕ) (h : Header) (z : Bodied bytes h) where
           ∙ passes_on _ _ (asked bytes room)
           (fault_no (eqb (length (header bytes).body) (5 * cells (header bytes).sides)) (ap (λ H. eqb (length H.body) (5 * cells H.sides)) z.sized.is ∙ eq-eqb _ _ z.sized.long))
 
-      by_body : verdict reader_checks (asked bytes room) ≡ ruling_of o
-      unfolding room_check
-      by_body = past_11 ∙ ruling_more room_check content_checks (asked bytes room) (fault (not (leb n room))) q short (content_same bytes room ∙ eq) ∙ ap ruling_of (ap (λ r. first_of r q) (sym ep) ∙ sym eo)
+      pub room_refused : (d : Fault) → p ≡ Err d → JudgedOf bytes room (Err d)
+      unfolding room_check verdict_of ReadyIf
+      room_refused d a = record { is = past_11 ∙ test_ends room_check WrongLength d length_is content_checks (asked bytes room) (leb n room) short (sym ep ∙ a); ready = tt }
 
-      pub body_refused : (num place : ℕ) → o ≡ Refusedᴿ num place → JudgedOf bytes room (Refused num place)
-      unfolding verdict_of ruling_of ReadyIf
-      body_refused num place d = record { is = by_body ∙ rw d; ready = tt }
+      module _ (a : p ≡ Ok tt) (q : Result (Unit {0}) Fault) (eq : verdict content_checks (asked bytes 0) ≡ ruling_of q) where
+        by_content : verdict reader_checks (asked bytes room) ≡ ruling_of q
+        by_content = past_11 ∙ test_passes room_check WrongLength content_checks (asked bytes room) (leb n room) short (sym ep ∙ a) ∙ content_same bytes room ∙ eq
 
-      pub body_passed : o ≡ Allowed → JudgedOf bytes room (Passed h)
-      unfolding verdict_of ruling_of ReadyIf
-      body_passed d =
-          let a : p ≡ Allowed = (both_allowed p q (sym eo ∙ d)).0 in
-          let f : leb n room ≡ true = no_fault (leb n room) (ruled_none 2 _ (sym ep ∙ a)) in
-          record { is = by_body ∙ rw d; ready = record { sized = z.sized; roomy = rw c at (leb-true n room f) } }
+        pub content_refused : (d : Fault) → q ≡ Err d → JudgedOf bytes room (Err d)
+        unfolding verdict_of ReadyIf
+        content_refused d b = record { is = by_content ∙ rw b; ready = tt }
 
-pub session_10 : (bytes : List ℕ) (room : ℕ) (x : HeaderRead) (k : ℕ) → HeaderOf bytes x → x ≡ Wrong k → JudgedOf bytes room (Refused 10 k)
+        pub content_passed : q ≡ Ok tt → JudgedOf bytes room (Ok h)
+        unfolding verdict_of ReadyIf
+        content_passed b =
+            let f : leb n room ≡ true = ruled_well WrongLength (leb n room) (sym ep ∙ a) in
+            record { is = by_content ∙ rw b; ready = record { sized = z.sized; roomy = rw c at (leb-true n room f) } }
+
+-- check 10
+pub session_10 : (bytes : List ℕ) (room k : ℕ) → HeaderOf bytes (Err k) → JudgedOf bytes room (Err (BadLine k))
 unfolding reader_checks line_check wrong_in verdict_of ReadyIf
-session_10 bytes room x k z e = record { is = fails_at _ _ (asked bytes room) k (z.line ∙ rw e); ready = tt }
+session_10 bytes room k z = record { is = fails_at _ _ (asked bytes room) k z.line; ready = tt }
 
-pub header_named : (bytes : List ℕ) (x : HeaderRead) (h : Header) → HeaderOf bytes x → x ≡ Named h → HeaderOf bytes (Named h)
-header_named bytes x h z e = rw e at z
+-- the same, of a line whose number became a fault
+pub bad_line_told : (bytes : List ℕ) (room : ℕ) (x : Result Header ℕ) (r : Result Header Fault) (d : Fault) → HeaderOf bytes x
+    → MatchResult x (λ h. r ≡ Ok h) (λ k. IsErrAnd r (λ y. y ≡ BadLine k)) → r ≡ Err d → JudgedOf bytes room (Err d)
+bad_line_told bytes room (Ok h) r d z m e = absurd (same_result h d (sym m ∙ e))
+  where
+    same_result : (h : Header) (d : Fault) → ◌≡◌ {A = Result Header Fault} (Ok h) (Err d) → ⊥
+    same_result h d q = cc
+bad_line_told bytes room (Err k) r d z m e = let q : d ≡ BadLine k = rw e at m in rw q (session_10 bytes room k z)
 
-pub ruleset sized = (rules, start_within, sizes_refused, sizes_bodied, bodied_fit, bodied_sized, body_refused, body_passed, session_10, header_named)
+pub ruleset sized = (rules, start_within, sizes_refused, sizes_bodied, bodied_fit, bodied_sized, room_refused, content_refused, content_passed, session_10)

@@ -1,6 +1,5 @@
 -- Laws that the proofs of several functions cite.
 pub mod SizeLaws
-pub mod ContentLaws
 pub mod JudgeLaws
 pub mod ReadLaws
 pub mod Unique

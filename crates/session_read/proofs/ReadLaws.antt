@@ -23,10 +23,11 @@ use Rattle.theory.specs.Sides.{Fit}
 use Rattle.theory.proofs.Sides.{fit}
 use Rattle.session_read.specs.Reads.{FitIf, ReadOf, asked, taken_of, verdict_of, ReadyIf, JudgedOf}
 use Rattle.theory.proofs.Verdicts.{verdict_agree}
+use Rattle.std.specs.Prelude.{Result, Ok, Err}
+use Rattle.answers.specs.Faults.{number_of, place_of}
+use Rattle.answers.specs.declared.Fault.{Fault}
 use Rattle.session_header.specs.declared.Header.{Header}
-use Rattle.session_read.specs.declared.Judged.{Judged}
 use Rattle.session_read.specs.declared.Taken.{Taken}
-use Rattle.session_read.specs.declared.Judged.TheVariants.{Refused, Passed}
 
 -- ---- what the reader makes of it
 module _ (bytes : List ℕ) (old : List ℤ) where
@@ -47,46 +48,46 @@ unfolding reading reading_by
 reading_passed q e = rw (reading, reading_by, e)
 
 -- ---- what is taken of it
-pub taken_refused : (j : Judged) (num place : ℕ) (a : Answer) → j ≡ Refused num place → a ≡ refusal num place
+pub taken_refused : (j : Result Header Fault) (d : Fault) (a : Answer) → j ≡ Err d → a ≡ refusal (number_of d) (place_of d)
     → record { session = record { answer = a; sides = record { nx = 0; ny = 0; nz = 0 }; order = Big; settings = record { tolerance = 0; levels = 0; rounds = 0 }; start = 0 }; count = 0 } ≡ taken_of j
 unfolding taken_of
-taken_refused j num place a e f = rw (e, f)
+taken_refused j d a e f = rw (e, f)
 
-pub taken_passed : (j : Judged) (h : Header) (a : Answer) (n : ℕ) → j ≡ Passed h → a ≡ refusal 0 0 → n ≡ cells h.sides
+pub taken_passed : (j : Result Header Fault) (h : Header) (a : Answer) (n : ℕ) → j ≡ Ok h → a ≡ refusal 0 0 → n ≡ cells h.sides
     → record { session = record { answer = a; sides = h.sides; order = h.order; settings = h.settings; start = h.start }; count = n } ≡ taken_of j
 unfolding taken_of done
 taken_passed j h a n e f c = rw (e, f, c)
 
-pub passed_fit : (j : Judged) (h : Header) → FitIf j → j ≡ Passed h → Fit h.sides
+pub passed_fit : (j : Result Header Fault) (h : Header) → FitIf j → j ≡ Ok h → Fit h.sides
 unfolding FitIf
 passed_fit j h z e = rw e at z
 
 pub ruleset taking = (rules, taken_refused, taken_passed, passed_fit)
 
-pub fit_if : (bytes : List ℕ) (room : ℕ) (j : Judged) → JudgedOf bytes room j → FitIf j
+pub fit_if : (bytes : List ℕ) (room : ℕ) (j : Result Header Fault) → JudgedOf bytes room j → FitIf j
 unfolding FitIf ReadyIf
-fit_if bytes room (Refused num place) z = tt
-fit_if bytes room (Passed h) z = fit h.sides z.ready.sized.fit
+fit_if bytes room (Err d) z = tt
+fit_if bytes room (Ok h) z = fit h.sides z.ready.sized.fit
 
 -- the cells that are read lie in the bytes, and there is room for them
 record Within (bytes : List ℕ) (room : ℕ) (t : Taken) : Type 0 where
   lies : t.session.start + 5 * t.count ≤ length bytes
   roomy : t.count ≤ room
 
-within : (bytes : List ℕ) (room : ℕ) (j : Judged) → JudgedOf bytes room j → Within bytes room (taken_of j)
+within : (bytes : List ℕ) (room : ℕ) (j : Result Header Fault) → JudgedOf bytes room j → Within bytes room (taken_of j)
 unfolding taken_of ReadyIf
-within bytes room (Refused num place) z = record { lies = omega arith; roomy = omega arith }
-within bytes room (Passed h) z = record { lies = omega (arith, z.ready.sized.long, length-drop h.start bytes, z.ready.sized.within); roomy = z.ready.roomy }
+within bytes room (Err d) z = record { lies = omega arith; roomy = omega arith }
+within bytes room (Ok h) z = record { lies = omega (arith, z.ready.sized.long, length-drop h.start bytes, z.ready.sized.within); roomy = z.ready.roomy }
 
-labels_of_lem : (bytes : List ℕ) (room : ℕ) (j : Judged) → JudgedOf bytes room j
+labels_of_lem : (bytes : List ℕ) (room : ℕ) (j : Result Header Fault) → JudgedOf bytes room j
     → take ((taken_of j).session.start + (taken_of j).count - (taken_of j).session.start) (drop (taken_of j).session.start bytes) ≡ (reading (asked bytes room)).labels
 unfolding taken_of verdict_of ReadyIf not_read header_of is_read labels_in
-labels_of_lem bytes room (Refused num place) z = sym (ap (λ r. r.labels) (reading_refused (asked bytes room) num place z.is))
-labels_of_lem bytes room (Passed h) z =
+labels_of_lem bytes room (Err d) z = sym (ap (λ r. r.labels) (reading_refused (asked bytes room) (number_of d) (place_of d) z.is))
+labels_of_lem bytes room (Ok h) z =
     let m : h.start + cells h.sides - h.start ≡ cells h.sides = omega arith in
     ap (λ k. take k (drop h.start bytes)) m ∙ sym (ap labels_in z.ready.sized.is) ∙ sym (ap (λ r. r.labels) (reading_passed (asked bytes room) z.is))
 
-module _ (bytes : List ℕ) (room : ℕ) (j : Judged) (t : Taken) (z : JudgedOf bytes room j) (e : t ≡ taken_of j) where
+module _ (bytes : List ℕ) (room : ℕ) (j : Result Header Fault) (t : Taken) (z : JudgedOf bytes room j) (e : t ≡ taken_of j) where
   known : Within bytes room t
   known = rw e (within bytes room j z)
 
@@ -113,12 +114,12 @@ abbrev stored : List ℕ → Taken → List ℤ → List ℤ
 stored bytes t old = filled t.count (tab t.count (value_in (drop t.session.start bytes) t.count t.session.order)) old
 
 module _ (bytes : List ℕ) (old : List ℤ) (known : Bytes bytes) where
-  read_of : (j : Judged) → JudgedOf bytes (length old) j → ReadOf bytes old (taken_of j).session (stored bytes (taken_of j) old)
+  read_of : (j : Result Header Fault) → JudgedOf bytes (length old) j → ReadOf bytes old (taken_of j).session (stored bytes (taken_of j) old)
   unfolding taken_of verdict_of ReadyIf not_read header_of is_read values_in value_in filled tab
-  read_of (Refused num place) z =
-      let q = reading_refused (lent bytes old) num place (same_verdict bytes old ∙ z.is) in
+  read_of (Err d) z =
+      let q = reading_refused (lent bytes old) (number_of d) (place_of d) (same_verdict bytes old ∙ z.is) in
       record { answer = rw q; sides = rw q; order = rw q; settings = rw q; start = rw q; values = rw q; are_bytes = known }
-  read_of (Passed h) z =
+  read_of (Ok h) z =
       let H = z.ready.sized.is in
       let q = reading_passed (lent bytes old) (same_verdict bytes old ∙ z.is) in
       record {
@@ -131,7 +132,7 @@ module _ (bytes : List ℕ) (old : List ℤ) (known : Bytes bytes) where
         are_bytes = known;
       }
 
-  pub read_taken : (new : List ℤ) (j : Judged) (t : Taken) (body : List ℕ) → JudgedOf bytes (length old) j → t ≡ taken_of j → body ≡ drop t.session.start bytes
+  pub read_taken : (new : List ℤ) (j : Result Header Fault) (t : Taken) (body : List ℕ) → JudgedOf bytes (length old) j → t ≡ taken_of j → body ≡ drop t.session.start bytes
       → new ≡ filled t.count (tab t.count (value_in body t.count t.session.order)) old
       → ReadOf bytes old t.session new
   read_taken new j t body z e b f = rw (f, b, e) (read_of j z)

@@ -10,20 +10,13 @@ ghost use Rattle.method.specs.Reading.{reading};
 ghost use Rattle.session_header.specs.Lines.{HeaderOf};
 ghost use Rattle.session_read.specs.Reads.{FitIf, ReadOf, asked, taken_of};
 
-use answers::refusal;
+use answers::{Fault, refusal};
 use grid::place::cell_count;
 use judge::judge_session;
 use method::{Answer, Order, Settings, Sides};
 use session_header::line::rest;
-use session_header::{Header, HeaderRead, read_header};
+use session_header::{Header, read_header};
 use session_values::store_values;
-
-// A session, judged: number and place of the first check that fails, or what the header names.
-#[derive(Clone, Copy)]
-enum Judged {
-    Refused(u32, u32),
-    Passed(Header),
-}
 
 // What the reader hands back beside the label part, and where in the bytes that part starts.
 #[derive(Clone, Copy)]
@@ -43,15 +36,14 @@ struct Taken {
 }
 
 // What is taken of a session that was judged: of a refused one nothing, and no cell.
-fn taken_of(judged: Judged) -> Taken
+fn taken_of(judged: Result<Header, Fault>) -> Taken
     requires { FitIf judged }
     ensures { result ≡ taken_of judged }
 {
     match judged {
-        Judged::Refused(number, place) => {
-            let answer = refusal(number, place);
+        Err(fault) => {
             let session = Session {
-                answer,
+                answer: Answer::from(fault),
                 sides: Sides {
                     nx: 0,
                     ny: 0,
@@ -67,20 +59,15 @@ fn taken_of(judged: Judged) -> Taken
             };
             Taken { session, count: 0 }
         }
-        Judged::Passed(h) => {
-            let sides = h.sides;
-            let order = h.order;
-            let settings = h.settings;
-            let start = h.start;
-            let answer = refusal(0, 0);
+        Ok(h) => {
             let session = Session {
-                answer,
-                sides,
-                order,
-                settings,
-                start,
+                answer: refusal(0, 0),
+                sides: h.sides,
+                order: h.order,
+                settings: h.settings,
+                start: h.start,
             };
-            let count = cell_count(sides);
+            let count = cell_count(h.sides);
             Taken { session, count }
         }
     }
@@ -88,7 +75,7 @@ fn taken_of(judged: Judged) -> Taken
 
 // Reads a session whose header was read: what it names is handed back, the values are stored. All checks come before the
 // first store.
-pub fn read_after(bytes: &[u8], header: HeaderRead, values: &mut [i32]) -> Session
+pub fn read_after(bytes: &[u8], header: Result<Header, u32>, values: &mut [i32]) -> Session
     requires { HeaderOf bytes.now header }
     ensures { ReadOf bytes.now values.old result values.new }
 {

@@ -1,25 +1,21 @@
 // The checks of sizes that ask for nothing: they hold for any sides that a header may name.
-ghost use Rattle.std.specs.Prelude.{◌≡◌, ◌*◌, eqb, leb, not};
+ghost use Rattle.std.specs.Prelude.{◌≡◌, ◌*◌, eqb, leb};
 ghost use Rattle.method.specs.Cast.{cells};
-ghost use Rattle.method.specs.Answers.{fault};
-ghost use Rattle.checks.specs.Rulings.{ruling_by};
+ghost use Rattle.answers.specs.declared.Fault.TheVariants.{WrongLength, BadBody};
+ghost use Rattle.checks.specs.Rulings.{unless};
 ghost use Rattle.session_read.specs.Reads.{size_ruling};
 
-use checks::Ruling;
-use checks::rule::{earlier, fault_unless, ruled};
+use answers::Fault;
 use method::Sides;
 
 // Whether a number is the product of two, which may be too large to be had.
 fn is_product(n: usize, a: usize, b: usize) -> bool
     ensures { result ≡ eqb n (a * b) }
 {
-    if b == 0 {
-        return n == 0;
+    match a.checked_mul(b) {
+        Some(product) => n == product,
+        None => false,
     }
-    if n / b != a {
-        return false;
-    }
-    n % b == 0
 }
 
 // Whether so many bytes are 5 a cell.
@@ -33,24 +29,31 @@ fn body_fits(sides: Sides, left: usize) -> bool
 }
 
 // Check 2, of n cells and a slice of so many values.
-pub(crate) fn judge_second(n: usize, room: usize) -> Ruling
-    ensures { result ≡ ruling_by 2 (fault (not (leb n room))) }
+pub(crate) fn judge_second(n: usize, room: usize) -> Result<(), Fault>
+    ensures { result ≡ unless WrongLength (leb n room) }
 {
-    ruled(2, fault_unless(n <= room))
+    if n <= room {
+        Ok(())
+    } else {
+        Err(Fault::WrongLength)
+    }
 }
 
 // Check 11, of how many bytes the body has.
-fn judge_eleventh(sides: Sides, left: usize) -> Ruling
-    ensures { result ≡ ruling_by 11 (fault (not (eqb left (5 * cells sides)))) }
+fn judge_eleventh(sides: Sides, left: usize) -> Result<(), Fault>
+    ensures { result ≡ unless BadBody (eqb left (5 * cells sides)) }
 {
-    ruled(11, fault_unless(body_fits(sides, left)))
+    if body_fits(sides, left) {
+        Ok(())
+    } else {
+        Err(Fault::BadBody)
+    }
 }
 
 // Checks 1 and 11, of the sides and how many bytes the body has.
-pub(crate) fn judge_sides(sides: Sides, left: usize) -> Ruling
+pub(crate) fn judge_sides(sides: Sides, left: usize) -> Result<(), Fault>
     ensures { result ≡ size_ruling sides left }
 {
-    let first = checks::cast::judge_sides(sides);
-    let eleventh = judge_eleventh(sides, left);
-    earlier(first, eleventh)
+    checks::cast::judge_sides(sides)?;
+    judge_eleventh(sides, left)
 }

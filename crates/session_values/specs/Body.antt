@@ -1,13 +1,8 @@
 -- A body of n cells: n label bytes, then n values of four bytes.
-use Rattle.std.specs.Prelude.{Bool, true, false, List, ℕ, ◌+◌, ◌*◌, ltb, take, drop, ℤ, nat_abs}
+use Rattle.std.specs.Prelude.{Bool, List, ℕ, ◌+◌, ◌*◌, ltb, take, drop, ℤ, nat_abs}
 use Rattle.method.specs.declared.Order.{Order}
-use Rattle.method.specs.declared.Order.TheVariants.{Big, Little}
 use Rattle.method.specs.Cast.{label_at, widest}
 use Rattle.method.specs.Form.{value_read}
-
-unfoldable pub is_big : Order → Bool
-is_big Big = true
-is_big Little = false
 
 -- the value of cell c of a body of n cells
 unfoldable pub value_in : List ℕ → ℕ → Order → ℕ → ℤ

@@ -1,38 +1,22 @@
 // Values of four bytes: read in the order that the session names, checked, stored.
 #![tactic(auto)]
 
-ghost use Rattle.std.specs.Prelude.{◌≡◌, [], ◌∷◌, ◌+◌, ◌*◌, ◌≤◌, ◌<◌, length, take, drop};
+ghost use Rattle.std.specs.Prelude.{◌≡◌, ℕ, ℤ, [], ◌∷◌, ◌+◌, ◌*◌, ◌≤◌, ◌<◌, length, take, drop};
 ghost use Rattle.laws.specs.Lists.{tab};
 ghost use Rattle.method.specs.Rooms.{filled};
 ghost use Rattle.method.specs.Cast.{first};
 ghost use Rattle.method.specs.Form.{in_order, most_first, twos_complement, word_of};
-ghost use Rattle.session_values.specs.Body.{bad_value_in, is_big, value_in};
+ghost use Rattle.session_values.specs.Body.{bad_value_in, value_in};
 
 use checks::cast::out_of_range;
-use method::{Found, Order};
-
-// A byte as a word.
-fn wide(b: u8) -> u32
-    ensures { result ≡ b }
-{
-    b as u32
-}
+use method::Order;
+use search::first_where;
 
 // A word from its bytes, the most significant first.
 pub fn word(a: u8, b: u8, c: u8, d: u8) -> u32
     ensures { result ≡ most_first 0 (a ∷ b ∷ c ∷ d ∷ []) }
 {
-    256 * (256 * (256 * wide(a) + wide(b)) + wide(c)) + wide(d)
-}
-
-// Whether the most significant byte comes first.
-fn is_big(order: Order) -> bool
-    ensures { result ≡ is_big order }
-{
-    match order {
-        Order::Big => true,
-        Order::Little => false,
-    }
+    u32::from_be_bytes([a, b, c, d])
 }
 
 // The word at a place, in the order that the session names.
@@ -44,11 +28,9 @@ fn word_at(bytes: &[u8], at: usize, order: Order) -> u32
     let b = bytes[at + 1];
     let c = bytes[at + 2];
     let d = bytes[at + 3];
-    let big = is_big(order);
-    if big {
-        word(a, b, c, d)
-    } else {
-        word(d, c, b, a)
+    match order {
+        Order::Big => word(a, b, c, d),
+        Order::Little => word(d, c, b, a),
     }
 }
 
@@ -56,22 +38,14 @@ fn word_at(bytes: &[u8], at: usize, order: Order) -> u32
 pub fn signed(w: u32) -> i32
     ensures { result ≡ twos_complement w }
 {
-    if w < 2147483648 {
-        w as i32
-    } else {
-        -1 - (4294967295 - w) as i32
-    }
+    w.cast_signed()
 }
 
 // A signed number as a word.
 pub fn word_of(v: i32) -> u32
     ensures { result ≡ word_of v }
 {
-    if v < 0 {
-        4294967295 - (-1 - v) as u32
-    } else {
-        v as u32
-    }
+    v.cast_unsigned()
 }
 
 // The value of cell c of a body of n cells.
@@ -94,18 +68,22 @@ fn bad_value_at(body: &[u8], n: usize, order: Order, c: usize) -> bool
 }
 
 // The first cell of a body of n cells whose value is out of its label's range.
-pub fn bad_value(body: &[u8], n: usize, order: Order) -> Found
+pub fn bad_value(body: &[u8], n: usize, order: Order) -> Option<u32>
     requires { (n ≤ 32768) × (5 * n ≤ length body.now) }
     ensures { result ≡ first (bad_value_in body.now n order) n }
 {
-    let mut c = 0;
-    while c < n {
-        if bad_value_at(body, n, order, c) {
-            return Found::At(c as u32);
-        }
-        c += 1;
+    first_where(n, |c| bad_value_at(body, n, order, c))
+}
+
+// The first n values are stored, each as a function gives it for its cell.
+pub fn store_first<F: Fn(usize) -> i32>(values: &mut [i32], n: usize, value: F)
+    requires room { n ≤ length values.old }
+    requires callable { (c : ℕ) → c < n → F.pre value c }
+    ensures { (t : ℕ → ℤ) → ((c : ℕ) → (v : ℤ) → c < n → F.post value c v → v ≡ t c) → values.new ≡ filled n (tab n t) values.old }
+{
+    for c in 0..n {
+        values[c] = value(c);
     }
-    Found::Nowhere
 }
 
 // All values of a body of n cells, stored.
@@ -113,10 +91,5 @@ pub fn store_values(body: &[u8], n: usize, order: Order, values: &mut [i32])
     requires { (n ≤ length values.old) × (5 * n ≤ length body.now) }
     ensures { values.new ≡ filled n (tab n (value_in body.now n order)) values.old }
 {
-    let mut c = 0;
-    while c < n {
-        let v = value_at(body, n, order, c);
-        values[c] = v;
-        c += 1;
-    }
+    store_first(values, n, |c| value_at(body, n, order, c));
 }

@@ -23,26 +23,23 @@ use Rattle.checks.specs.Faults.{cell_ruling}
 use Rattle.text_out.specs.Puts.{Put}
 use Rattle.session_bytes.specs.Lengths.{HeaderLength}
 use Rattle.session_write.specs.Writes.{offered, WriteOf, RoomIf, limit_ruling, slice_ruling, RuledOf}
-use Rattle.checks.specs.declared.Ruling.{Ruling}
-use Rattle.checks.specs.declared.Ruling.TheVariants.{Refused, Allowed}
+use Rattle.std.specs.Prelude.{Result, Ok, Err}
+use Rattle.answers.specs.Faults.{number_of, place_of}
+use Rattle.answers.specs.declared.Fault.{Fault}
+use Rattle.answers.specs.declared.Fault.TheVariants.{SideOutOfRange, WrongLength, SettingOutOfRange}
 use Rattle.theory.specs.Sides.{Fit}
 use Rattle.theory.proofs.Sides.{fit}
-use Rattle.theory.proofs.Verdicts.{verdict_agree, fault_no, fault_yes, no_fault}
-use Rattle.checks.proofs.RuleLaws.{ruling_none, ruling_more, last_ruling, first_assoc, both_allowed, ruled_none}
+use Rattle.theory.proofs.Verdicts.{verdict_agree}
+use Rattle.checks.proofs.RuleLaws.{side_is, length_is, setting_is, ruling_none, test_more, last_ruling, first_assoc, both_allowed, ruled_well}
 use Rattle.checks.proofs.CheckLaws.{cells_ruled}
-use Rattle.checks.specs.Rulings.{ruling_of, ruling_by, first_of}
+use Rattle.checks.specs.Rulings.{ruling_of, unless, first_of}
 use Rattle.session_bytes.proofs.LengthLaws.{written_length}
 
--- ---- 1 before 3, and an output that is just long enough
-pub limits_ruled : (s : Sides) (t : Settings) (p q o : Ruling) → o ≡ first_of p q → p ≡ ruling_by 1 (fault (not (sides_fit s))) → q ≡ ruling_by 3 (fault (not (settings_fit t)))
-    → o ≡ limit_ruling s t
-unfolding limit_ruling
-limits_ruled s t p q o g a b = g ∙ ap₂ first_of a b
-
+-- ---- an output that is just long enough
 pub room_is : (s : Sides) (o : Order) (t : Settings) (m n room : ℕ) → HeaderLength s o t m → leb (m + 5 * n) room ≡ leb (length (header_written s o t) + 5 * n) room
 room_is s o t m n room l = ap (λ k. leb (k + 5 * n) room) l.is
 
-pub ruleset limits = (rules, limits_ruled, room_is)
+pub ruleset limits = (rules, room_is)
 
 and_true : (a b : Bool) → (a && b) ≡ true → (a ≡ true) × (b ≡ true)
 and_true true b e = (refl, e)
@@ -81,10 +78,6 @@ module _ (s : Sides) (o : Order) (t : Settings) (ls : List ℕ) (vs : List ℤ) 
 
   -- ---- 2, and then 4 and 5
   module _ (b : Bool) (p : b ≡ writer_lengths_fit lent) where
-    pub slices_2 : b ≡ false → Refused 2 0 ≡ slice_ruling lent
-    unfolding slice_ruling ruling_by first_of
-    slices_2 e = sym (ap (λ f. first_of (ruling_by 2 f) (cell_ruling ls vs (cells s))) (fault_yes (writer_lengths_fit lent) (sym p ∙ e)))
-
     module _ (e : b ≡ true) (n : ℕ) (c : n ≡ cells s) where
       pub slices_labels : n ≤ length ls
       slices_labels = omega (arith, c, (lengths_known (sym p ∙ e)).0)
@@ -92,43 +85,35 @@ module _ (s : Sides) (o : Order) (t : Settings) (ls : List ℕ) (vs : List ℤ) 
       pub slices_values : n ≤ length vs
       slices_values = omega (arith, c, (lengths_known (sym p ∙ e)).1.0)
 
-      pub slices_cells : (r : Ruling) → r ≡ cell_ruling ls vs n → r ≡ slice_ruling lent
-      unfolding slice_ruling ruling_by first_of
-      slices_cells r q =
-          q ∙ ap (cell_ruling ls vs) c ∙ sym (ap (λ f. first_of (ruling_by 2 f) (cell_ruling ls vs (cells s))) (fault_no (writer_lengths_fit lent) (sym p ∙ e)))
-
-  room_if : (q : Ruling) → q ≡ slice_ruling lent → RoomIf (length whole) room q
-  unfolding RoomIf slice_ruling
-  room_if (Refused x y) e = tt
-  room_if Allowed e =
-      (lengths_known (no_fault (writer_lengths_fit lent) (ruled_none 2 _ (both_allowed (ruling_by 2 (fault (not (writer_lengths_fit lent)))) _ (sym e)).0))).1.1
+  room_if : (q : Result (Unit {0}) Fault) → q ≡ slice_ruling lent → RoomIf (length whole) room q
+  unfolding RoomIf
+  room_if (Err d) e = tt
+  room_if (Ok u) e = (lengths_known (ruled_well WrongLength _ (both_allowed (unless WrongLength (writer_lengths_fit lent)) _ (sym e)).0)).1.1
 
   -- ---- 1 and 3, and then the others
-  module _ (a : Ruling) (p : a ≡ limit_ruling s t) where
-    by_limits : (q : Ruling) → q ≡ slice_ruling lent → verdict writer_checks lent ≡ ruling_of (first_of a q)
-    unfolding writer_checks limit_ruling slice_ruling
+  module _ (a : Result (Unit {0}) Fault) (p : a ≡ limit_ruling s t) where
+    by_limits : (q : Result (Unit {0}) Fault) → q ≡ slice_ruling lent → verdict writer_checks lent ≡ ruling_of (first_of a q)
+    unfolding writer_checks
     by_limits q e =
-        ruling_more _ _ lent (fault (not (sides_fit s))) _ refl
-        (ruling_more _ _ lent (fault (not (settings_fit t))) _ refl
-        (ruling_more _ _ lent (fault (not (writer_lengths_fit lent))) (cell_ruling ls vs (cells s)) refl
-        (cells_ruled (λ w. w.cast) [] lent (cells s) refl Allowed (ruling_none lent) ∙ ap ruling_of (last_ruling (cell_ruling ls vs (cells s))))))
-        ∙ ap ruling_of (sym (first_assoc (ruling_by 1 (fault (not (sides_fit s)))) (ruling_by 3 (fault (not (settings_fit t)))) _) ∙ ap₂ first_of (sym p) (sym e))
+        test_more _ SideOutOfRange side_is _ lent (sides_fit s) _ refl
+        (test_more _ SettingOutOfRange setting_is _ lent (settings_fit t) _ refl
+        (test_more _ WrongLength length_is _ lent (writer_lengths_fit lent) (cell_ruling ls vs (cells s)) refl
+        (cells_ruled (λ w. w.cast) [] lent (cells s) refl (Ok tt) (ruling_none lent) ∙ ap ruling_of (last_ruling (cell_ruling ls vs (cells s))))))
+        ∙ ap ruling_of (sym (first_assoc (unless SideOutOfRange (sides_fit s)) (unless SettingOutOfRange (settings_fit t)) _) ∙ ap₂ first_of (sym p) (sym e))
 
-    pub cast_refused : (num place : ℕ) → a ≡ Refused num place → RuledOf s o t ls vs room (Refused num place)
-    unfolding ruling_of RoomIf first_of
-    cast_refused num place d = record { is = by_limits (slice_ruling lent) refl ∙ ap (λ x. ruling_of (first_of x (slice_ruling lent))) d; roomy = tt }
+    pub cast_refused : (d : Fault) → a ≡ Err d → RuledOf s o t ls vs room (Err d)
+    unfolding RoomIf
+    cast_refused d q = record { is = by_limits (slice_ruling lent) refl ∙ ap (λ x. ruling_of (first_of x (slice_ruling lent))) q; roomy = tt }
 
-    pub limits_fit : a ≡ Allowed → Fit s
-    unfolding limit_ruling
-    limits_fit d = fit s (no_fault (sides_fit s) (ruled_none 1 _ (both_allowed (ruling_by 1 (fault (not (sides_fit s)))) _ (sym p ∙ d)).0))
+    pub limits_fit : a ≡ Ok tt → Fit s
+    limits_fit d = fit s (ruled_well SideOutOfRange (sides_fit s) (both_allowed (unless SideOutOfRange (sides_fit s)) _ (sym p ∙ d)).0)
 
-    pub cast_slices : (q : Ruling) → a ≡ Allowed → q ≡ slice_ruling lent → RuledOf s o t ls vs room q
-    unfolding first_of
+    pub cast_slices : (q : Result (Unit {0}) Fault) → a ≡ Ok tt → q ≡ slice_ruling lent → RuledOf s o t ls vs room q
     cast_slices q d e = record { is = by_limits q e ∙ ap (λ x. ruling_of (first_of x q)) d; roomy = room_if q e }
 
 pub ruleset lengths = (rules, not-true, not-false, lengths_labels, lengths_values, lengths_room)
 
-pub ruleset slices = (rules, not-true, not-false, slices_2, slices_labels, slices_values, slices_cells)
+pub ruleset slices = (rules, not-true, not-false, slices_labels, slices_values)
 
 pub ruleset casts = (rules, cast_refused, limits_fit, cast_slices)
 
@@ -157,20 +142,19 @@ module _ (s : Sides) (o : Order) (t : Settings) (ls : List ℕ) (vs : List ℤ) 
     ),
   )
 
-  module _ (r : Ruling) (z : RuledOf s o t ls vs (length old) r) where
-    pub write_refused : (num place : ℕ) (a : Answer) → r ≡ Refused num place → a ≡ refusal num place → WriteOf s o t ls vs old (record { answer = a; count = 0 }) old
-    unfolding ruling_of
-    write_refused num place a e f =
-        let q = writing_refused (offered s o t ls vs old) num place (same_verdict ∙ z.is ∙ ap ruling_of e) in
+  module _ (r : Result (Unit {0}) Fault) (z : RuledOf s o t ls vs (length old) r) where
+    pub write_refused : (d : Fault) (a : Answer) → r ≡ Err d → a ≡ refusal (number_of d) (place_of d) → WriteOf s o t ls vs old (record { answer = a; count = 0 }) old
+    write_refused d a e f =
+        let q = writing_refused (offered s o t ls vs old) (number_of d) (place_of d) (same_verdict ∙ z.is ∙ ap ruling_of e) in
         record { answer = f ∙ sym (ap (λ w. w.answer) q); count = sym (ap (λ w. w.count) q); output = sym (ap (λ w. w.output) q) }
 
-    pub write_room : r ≡ Allowed → length (written (record { sides = s; labels = ls; values = vs }) o t) ≤ length old
+    pub write_room : r ≡ Ok tt → length (written (record { sides = s; labels = ls; values = vs }) o t) ≤ length old
     unfolding RoomIf
     write_room e = rw e at z.roomy
 
-    pub write_allowed : (a : Answer) (new : List ℕ) (n : ℕ) → r ≡ Allowed → a ≡ refusal 0 0 → Put (written (record { sides = s; labels = ls; values = vs }) o t) old 0 new n
+    pub write_allowed : (a : Answer) (new : List ℕ) (n : ℕ) → r ≡ Ok tt → a ≡ refusal 0 0 → Put (written (record { sides = s; labels = ls; values = vs }) o t) old 0 new n
         → WriteOf s o t ls vs old (record { answer = a; count = n }) new
-    unfolding ruling_of done filled
+    unfolding done filled
     write_allowed a new n e f p =
         let q = writing_passed (offered s o t ls vs old) (same_verdict ∙ z.is ∙ ap ruling_of e) in
         let k : 0 + length (written (record { sides = s; labels = ls; values = vs }) o t) ≡ length (written (record { sides = s; labels = ls; values = vs }) o t) = omega arith in

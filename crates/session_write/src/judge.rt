@@ -5,20 +5,18 @@ ghost use Rattle.method.specs.Writing.{writer_lengths_fit};
 ghost use Rattle.theory.specs.Sides.{Fit};
 ghost use Rattle.session_write.specs.Writes.{RuledOf, limit_ruling, offered, slice_ruling};
 
-use checks::Ruling;
+use answers::Fault;
 use checks::cast::{judge_cells, judge_settings, judge_sides};
-use checks::rule::earlier;
 use grid::place::cell_count;
 use method::{Order, Settings, Sides};
 use session_bytes::length::header_length;
 
 // Checks 1 and 3, of the sides and the settings.
-fn judge_limits(sides: Sides, settings: Settings) -> Ruling
+fn judge_limits(sides: Sides, settings: Settings) -> Result<(), Fault>
     ensures { result ≡ limit_ruling sides settings }
 {
-    let first = judge_sides(sides);
-    let third = judge_settings(settings);
-    earlier(first, third)
+    judge_sides(sides)?;
+    judge_settings(settings)
 }
 
 // Whether an output of so many bytes has room for a session of n cells.
@@ -60,15 +58,14 @@ fn judge_slices(
     labels: &[u8],
     values: &[i32],
     room: usize,
-) -> Ruling
+) -> Result<(), Fault>
     requires { Fit sides }
     ensures { result ≡ slice_ruling (offered sides order settings labels.now values.now (replicate room 0)) }
 {
     if !lengths_fit(sides, order, settings, labels, values, room) {
-        return Ruling::Refused(2, 0);
+        return Err(Fault::WrongLength);
     }
-    let n = cell_count(sides);
-    judge_cells(labels, values, n)
+    judge_cells(labels, values, cell_count(sides))
 }
 
 // Checks 1 and 3, and then the others. The output has room for so many bytes.
@@ -79,11 +76,9 @@ pub(crate) fn judge_cast(
     labels: &[u8],
     values: &[i32],
     room: usize,
-) -> Ruling
+) -> Result<(), Fault>
     ensures { RuledOf sides order settings labels.now values.now room result }
 {
-    match judge_limits(sides, settings) {
-        Ruling::Refused(number, place) => Ruling::Refused(number, place),
-        Ruling::Allowed => judge_slices(sides, order, settings, labels, values, room),
-    }
+    judge_limits(sides, settings)?;
+    judge_slices(sides, order, settings, labels, values, room)
 }

@@ -6,7 +6,6 @@ mod judge;
 ghost use Rattle.session_write.specs.Writes.{WriteOf};
 
 use answers::refusal;
-use checks::Ruling;
 use judge::judge_cast;
 use method::{Answer, Order, Settings, Sides};
 use session_bytes::put_session;
@@ -31,11 +30,11 @@ pub fn write(
     ensures { WriteOf sides order settings labels.now values.now output.old result output.new }
 {
     match judge_cast(sides, order, settings, labels, values, output.len()) {
-        Ruling::Refused(number, place) => {
-            let answer = refusal(number, place);
+        Err(fault) => {
+            let answer = Answer::from(fault);
             Written { answer, count: 0 }
         }
-        Ruling::Allowed => {
+        Ok(()) => {
             let count = put_session(sides, order, settings, labels, values, output);
             let answer = refusal(0, 0);
             Written { answer, count }

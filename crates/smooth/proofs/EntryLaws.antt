@@ -29,7 +29,8 @@ use Rattle.theory.proofs.Waves.{waves_below, waves_pass}
 use Rattle.grid.proofs.Steps.{cells_most}
 use Rattle.grid.specs.Entries.{one, entry_of, cell_of, cells_of}
 use Rattle.grid.proofs.EntryParts.{one_true, w_air, e_air, s_air, n_air, b_air, a_air, cell_is, west_is, east_is, south_is, north_is, below_is, above_is, d_part}
-use Rattle.smooth.specs.Entries.{picked, Reads, Entry, AllRead, Entries, EntryLevel}
+use Rattle.smooth.specs.declared.Lattice.{Lattice}
+use Rattle.smooth.specs.Entries.{AirEntries, picked, Reads, Entry, AllRead, Entries, EntryLevel}
 use Rattle.smooth.specs.Fields.{u_of, b_of, relax_turn}
 use Rattle.smooth.specs.Sweeps.{swept_up, swept_down}
 use Rattle.smooth.proofs.Sums.{air_in_lem}
@@ -280,3 +281,22 @@ module _ (g : Sides) (ls : List ℕ) (z : Fit g) (at : ℕ → Bool) (air : (c :
 
   pub entries_descending : (b u : List Float) → swept_down g ls (cells_of es) b u ≡ descending g ls at b u
   entries_descending b u = ap (λ cs. swept_down g ls cs b u) cells_are ∙ waves_descending g ls at air b u
+
+-- ---- what is so of a level's numbers is so of its lattice
+module _ (l : Lattice) (n nx plane z : ℕ) (is : l ≡ record { n = n; nx = nx; plane = plane; zero = z }) where
+  pub lattice_reads : (len : ℕ) (es : List ℕ) → AllRead n nx plane z len es → AllRead l.n l.nx l.plane l.zero len es
+  lattice_reads len es r = rw is r
+
+  pub lattice_entries : (g : Sides) (ls es : List ℕ) → Entries g ls n nx plane es → Entries g ls l.n l.nx l.plane es
+  lattice_entries g ls es e = rw is e
+
+  pub lattice_air : (g : Sides) (ls es : List ℕ) → AirEntries g ls n nx plane es → AirEntries g ls l.n l.nx l.plane es
+  lattice_air g ls es a = rw is a
+
+  pub lattice_before : (k : ℕ) → k * n ≤ z → k * l.n ≤ l.zero
+  lattice_before k h = rw is h
+
+  pub lattice_zero : (r : List Float) → value r z ≡ +0 → value r l.zero ≡ +0
+  lattice_zero r h = rw is h
+
+pub ruleset lattices = (rules, level_reads, lattice_reads, lattice_entries, lattice_air, lattice_zero)

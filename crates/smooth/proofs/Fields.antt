@@ -1,39 +1,31 @@
 -- What the loops over all cells make of the fields. Assumes nothing.
 use Prim.Native.Nat.{ℕ, ◌+◌, ◌*◌, ◌≤◌}
-use mathlib.Core.Path.{◌≡◌, refl, sym, ap, ap₂, ◌∙◌}
+use mathlib.Core.Path.{◌≡◌, sym, ap, ◌∙◌}
 use mathlib.Core.List.{List, ◌++◌, append_assoc}
 use native.Mathlib.Omega.{arith}
+use borrow.Author.Rules.{rules}
 use lib.ListN.{length, take, drop, length-drop, take-append-drop}
-use lib.Seq.{get_or-set_other, take-add, drop-drop, take_at, drop_at, length-take-le}
-use lib.Ieee.{Float, nan}
+use lib.Seq.{take-add, drop-drop, take_at, drop_at, length-take-le}
+use lib.Ieee.{Float}
 use Rattle.laws.specs.Binary64.{+0}
-use Rattle.laws.specs.Loops.{up}
 use Rattle.laws.specs.Lists.{tab}
-use Rattle.laws.proofs.Loops.{ups}
-use Rattle.laws.proofs.Fills.{tab_take, filled, filled_front}
 use Rattle.method.specs.declared.Sides.{Sides}
 use Rattle.method.specs.Cast.{cells}
-use Rattle.method.specs.Transfers.{value}
 use Rattle.method.specs.Cycle.{jacobi, zeros}
-use Rattle.smooth.specs.Fields.{u_of, b_of, t_of, Laid, keep_turn, clear_turn, clear_from_turn}
+use Rattle.method.specs.Rooms.{cleared}
+use Rattle.rooms.proofs.Clears.{cleared_tab, zero_bits}
+use Rattle.smooth.specs.Fields.{u_of, b_of, t_of, Laid}
 
--- ---- u becomes zero
-pub clear_is : (n : ℕ) (s t : List Float) → n ≤ length s → t ≡ up clear_turn n s → t ≡ tab n (λ c. +0) ++ drop n s
-clear_is n s t h e = e ∙ filled_front clear_turn (λ c r. +0) n s (λ c r. refl) (λ c i x r a b. refl) h
-
-pub clear_from_is : (from n : ℕ) (s t : List Float) → from + n ≤ length s → t ≡ up (clear_from_turn from) n s → t ≡ take from s ++ (tab n (λ c. +0) ++ drop (from + n) s)
-clear_from_is from n s t h e = e ∙ filled (clear_from_turn from) (λ c r. +0) from n s (λ c r. refl) (λ c i x r a b. refl) h
-
-pub zeros_is : (g : Sides) (n : ℕ) (s t : List Float) → n ≡ cells g → t ≡ tab n (λ c. +0) ++ drop n s → t ≡ zeros g ++ drop (cells g) s
+-- ---- a part of a room becomes zero
+pub clear_is : (g : Sides) (n : ℕ) (s t : List Float) → n ≡ cells g → t ≡ cleared n +0 s → t ≡ zeros g ++ drop (cells g) s
 unfolding zeros
-zeros_is g n s t h e = e ∙ ap (λ m. tab m (λ c. +0) ++ drop m s) h
+clear_is g n s t h e = e ∙ cleared_tab +0 n s ∙ ap (λ m. tab m (λ c. +0) ++ drop m s) h
 
 -- ---- the old u in t
-pub keep_is : (n : ℕ) (s t : List Float) → 3 * n ≤ length s → t ≡ up (keep_turn n) n s → t ≡ take (2 * n) s ++ (take n s ++ drop (3 * n) s)
-keep_is n s t h e =
+pub keep_is : (n : ℕ) (s t : List Float) → t ≡ take (2 * n) s ++ take n s ++ drop (2 * n + n) s → t ≡ take (2 * n) s ++ (take n s ++ drop (3 * n) s)
+keep_is n s t e =
     let three : 2 * n + n ≡ 3 * n = omega arith in
-    e ∙ filled (keep_turn n) (λ c r. value r c) (2 * n) n s (λ c r. refl) (λ c i x r a b. get_or-set_other r (2 * n + i) c x nan (λ p. omega arith)) (omega arith)
-    ∙ ap₂ (λ v m. take (2 * n) s ++ (v ++ drop m s)) (tab_take n s nan (omega arith)) three
+    e ∙ append_assoc (take (2 * n) s) (take n s) (drop (2 * n + n) s) ∙ ap (λ m. take (2 * n) s ++ (take n s ++ drop m s)) three
 
 -- the first two fields, by name
 pub fields : (n : ℕ) (s r : List Float) → take (2 * n) s ++ r ≡ u_of n s ++ (b_of n s ++ r)
@@ -82,4 +74,4 @@ pub jacobi_from : (g : Sides) (ls : List ℕ) (n : ℕ) (u b r m : List Float) �
     → jacobi g ls (b_of n m) (t_of n m) ++ drop n m ≡ jacobi g ls b u ++ (b ++ (u ++ r))
 jacobi_from g ls n u b r m l = rw (laid_b l, laid_t l, laid_rest l)
 
-pub ruleset fills = (ups, clear_is, clear_from_is, zeros_is, keep_is)
+pub ruleset fills = (rules, zero_bits, clear_is, keep_is)

@@ -1,9 +1,7 @@
 -- The three fields of a level in one room: u, b, and t, which is scratch.
-use Rattle.std.specs.Prelude.{ℕ, ◌+◌, ◌*◌, ◌≤◌, ◌≡◌, List, ◌++◌, length, take, drop, set, Float}
-use Rattle.laws.specs.Binary64.{+0}
+use Rattle.std.specs.Prelude.{ℕ, ◌*◌, ◌≤◌, ◌≡◌, List, ◌++◌, length, take, drop, Float}
 use Rattle.method.specs.declared.Sides.{Sides}
 use Rattle.method.specs.Cast.{cells, is_air}
-use Rattle.method.specs.Transfers.{value}
 use Rattle.method.specs.Cycle.{relaxed}
 use Rattle.theory.specs.Sides.{Fit}
 
@@ -33,13 +31,3 @@ pub record Laid (n : ℕ) (u b t r : List Float) (room : List Float) : Type 0 wh
 -- Gauss-Seidel
 abbrev pub relax_turn : Sides → List ℕ → ℕ → List Float → List Float
 relax_turn g ls c r = relaxed g ls (is_air ls) (b_of (cells g) r) c (u_of (cells g) r) ++ drop (cells g) r
-
--- the old u goes to t; u becomes zero
-abbrev pub keep_turn : ℕ → ℕ → List Float → List Float
-keep_turn n c r = set r (2 * n + c) (value r c)
-
-abbrev pub clear_turn : ℕ → List Float → List Float
-clear_turn c r = set r c +0
-
-abbrev pub clear_from_turn : ℕ → ℕ → List Float → List Float
-clear_from_turn from c r = set r (from + c) +0

@@ -2,9 +2,7 @@
 // element a cell each, and what follows. Openings count as zero.
 #![tactic(auto)]
 
-ghost use Rattle.std.specs.Prelude.{◌≡◌, ◌++◌, ◌+◌, ◌*◌, ◌≤◌, length, take, drop};
-ghost use Rattle.laws.specs.Binary64.{+0};
-ghost use Rattle.laws.specs.Lists.{tab};
+ghost use Rattle.std.specs.Prelude.{◌≡◌, ◌++◌, ◌-◌, ◌*◌, ◌≤◌, ◌<◌, length, take, drop};
 ghost use Rattle.method.specs.Cast.{cells};
 ghost use Rattle.method.specs.Cycle.{zeros};
 ghost use Rattle.theory.specs.Sides.{Fit};
@@ -12,42 +10,43 @@ ghost use Rattle.theory.specs.Sides.{Fit};
 pub mod entries;
 pub mod stencils;
 
+// What the kernels over entries know of a level: its cells' number, how far their neighbours stand, and a zero's place.
+#[derive(Clone, Copy)]
+pub struct Lattice {
+    // how many elements a field has, one a cell
+    pub n: usize,
+    // how many elements a step along y is; one along x is one
+    pub nx: usize,
+    // how many a step along z is
+    pub plane: usize,
+    // where the zero stands that is read for a neighbour that is no air
+    pub zero: usize,
+}
+
+impl Lattice {
+    // Of a box with these sides and n cells, in a room of that length whose last element is the zero.
+    pub fn of(g: method::Sides, n: usize, length: usize) -> Lattice
+        requires fit { Fit g }
+        requires some { 0 < length }
+        ensures { result ≡ record { n = n; nx = g.nx; plane = g.nx * g.ny; zero = length - 1 } }
+    {
+        let nx = g.nx as usize;
+        let plane = nx * (g.ny as usize);
+        Lattice {
+            n,
+            nx,
+            plane,
+            zero: length - 1,
+        }
+    }
+}
+
 // The old u goes to t.
 pub(crate) fn keep_u(room: &mut [f64], n: usize)
     requires { 3 * n ≤ length room.old }
     ensures { room.new ≡ take (2 * n) room.old ++ (take n room.old ++ drop (3 * n) room.old) }
 {
-    let t = 2 * n;
-    let mut c = 0;
-    while c < n {
-        let x = room[c];
-        room[t + c] = x;
-        c += 1;
-    }
-}
-
-// The first n elements become zero.
-pub fn clear_front(room: &mut [f64], n: usize)
-    requires { n ≤ length room.old }
-    ensures { room.new ≡ tab n (λ c. +0) ++ drop n room.old }
-{
-    let mut c = 0;
-    while c < n {
-        room[c] = 0.0;
-        c += 1;
-    }
-}
-
-// The n elements from `from` on become zero.
-pub fn clear_from(room: &mut [f64], from: usize, n: usize)
-    requires { from + n ≤ length room.old }
-    ensures { room.new ≡ take from room.old ++ (tab n (λ c. +0) ++ drop (from + n) room.old) }
-{
-    let mut c = 0;
-    while c < n {
-        room[from + c] = 0.0;
-        c += 1;
-    }
+    room.copy_within(0..n, 2 * n);
 }
 
 // u becomes zero.
@@ -56,5 +55,5 @@ pub fn clear_u(room: &mut [f64], g: method::Sides)
     requires g_in_bounds { cells g ≤ length room.old }
     ensures { room.new ≡ zeros g ++ drop (cells g) room.old }
 {
-    clear_front(room, grid::place::cell_count(g));
+    rooms::clear_front(room, grid::place::cell_count(g), 0.0);
 }

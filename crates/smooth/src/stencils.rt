@@ -12,68 +12,64 @@ ghost use Rattle.smooth.specs.Entries.{Reads, Entry, AllRead, Entries, AirEntrie
 ghost use Rattle.smooth.specs.Written.{write_at, written};
 ghost use Rattle.smooth.specs.Stencils.{jacobi_new, first_new, residue_new};
 
+use crate::Lattice;
+
 // A u at an entry's cell, of the field that begins at `from`.
-pub fn applied_entry(
-    room: &[f64],
-    from: usize,
-    n: usize,
-    nx: usize,
-    plane: usize,
-    zero: usize,
-    e: u32,
-) -> f64
-    requires reads { Reads n nx plane e }
-    requires n_bound { (from + n ≤ zero) × (zero < length room.now) }
-    requires zero_value { value room.now zero ≡ +0 }
-    ensures { (g : Sides) (ls : List ℕ) → Entry g ls n nx plane e → result ≡ applied g ls (take (cells g) (drop from room.now)) (e % 32768) }
+pub fn applied_entry(room: &[f64], from: usize, lattice: Lattice, e: u32) -> f64
+    requires reads { Reads lattice.n lattice.nx lattice.plane e }
+    requires n_bound { (from + lattice.n ≤ lattice.zero) × (lattice.zero < length room.now) }
+    requires zero_value { value room.now lattice.zero ≡ +0 }
+    ensures { (g : Sides) (ls : List ℕ) → Entry g ls lattice.n lattice.nx lattice.plane e → result ≡ applied g ls (take (cells g) (drop from room.now)) (e % 32768) }
 {
     let c = (e % 32768) as usize;
     let d = (e / 2097152) as f64;
-    let sum = crate::entries::gather(&room[from..], n, nx, plane, zero - from, e);
+    let part = Lattice {
+        zero: lattice.zero - from,
+        ..lattice
+    };
+    let sum = crate::entries::gather(&room[from..], part, e);
     let x = room[from + c];
     d * x - sum
 }
 
 // Jacobi at an entry's cell, from the old u in t.
-fn jacobi_entry(room: &mut [f64], n: usize, nx: usize, plane: usize, zero: usize, e: u32)
-    requires reads { Reads n nx plane e }
-    requires n_bound { (3 * n ≤ zero) × (zero < length room.old) }
-    requires zero_value { value room.old zero ≡ +0 }
-    ensures zero_after { value room.new zero ≡ +0 }
-    ensures room_after { (g : Sides) (ls : List ℕ) → Entry g ls n nx plane e → room.new ≡ write_at 0 (jacobi_new g ls) (e % 32768) room.old }
+fn jacobi_entry(room: &mut [f64], lattice: Lattice, e: u32)
+    requires reads { Reads lattice.n lattice.nx lattice.plane e }
+    requires n_bound { (3 * lattice.n ≤ lattice.zero) × (lattice.zero < length room.old) }
+    requires zero_value { value room.old lattice.zero ≡ +0 }
+    ensures zero_after { value room.new lattice.zero ≡ +0 }
+    ensures room_after { (g : Sides) (ls : List ℕ) → Entry g ls lattice.n lattice.nx lattice.plane e → room.new ≡ write_at 0 (jacobi_new g ls) (e % 32768) room.old }
 {
     let c = (e % 32768) as usize;
     let d = (e / 2097152) as f64;
-    let old = 2 * n;
-    let a = applied_entry(&room[..], old, n, nx, plane, zero, e);
+    let old = 2 * lattice.n;
+    let a = applied_entry(&room[..], old, lattice, e);
     let x = room[old + c];
-    let b = room[n + c];
+    let b = room[lattice.n + c];
     room[c] = x + (2.0 / 3.0) * ((b - a) / d);
 }
 
 // Jacobi at each entry's cell.
-fn jacobi_list(room: &mut [f64], list: &[u32], n: usize, nx: usize, plane: usize, zero: usize)
-    requires all_read { AllRead n nx plane zero (length room.old) list.now }
-    requires zero_value { value room.old zero ≡ +0 }
-    ensures zero_after { value room.new zero ≡ +0 }
-    ensures room_after { (g : Sides) (ls : List ℕ) → Entries g ls n nx plane list.now → room.new ≡ written 0 (jacobi_new g ls) (cells_of list.now) room.old }
+fn jacobi_list(room: &mut [f64], list: &[u32], lattice: Lattice)
+    requires all_read { AllRead lattice.n lattice.nx lattice.plane lattice.zero (length room.old) list.now }
+    requires zero_value { value room.old lattice.zero ≡ +0 }
+    ensures zero_after { value room.new lattice.zero ≡ +0 }
+    ensures room_after { (g : Sides) (ls : List ℕ) → Entries g ls lattice.n lattice.nx lattice.plane list.now → room.new ≡ written 0 (jacobi_new g ls) (cells_of list.now) room.old }
 {
-    let mut k = 0;
-    while k < list.len() {
-        jacobi_entry(room, n, nx, plane, zero, list[k]);
-        k += 1;
+    for &e in list {
+        jacobi_entry(room, lattice, e);
     }
 }
 
 // u + (2/3)·((b - A u)/d) into u, all changes from the old u, which is left in t. Off air u is +0.0 and stays so.
-pub fn jacobi(room: &mut [f64], list: &[u32], n: usize, nx: usize, plane: usize, zero: usize)
-    requires all_read { AllRead n nx plane zero (length room.old) list.now }
-    requires zero_value { value room.old zero ≡ +0 }
-    ensures zero_after { value room.new zero ≡ +0 }
-    ensures room_after { (g : Sides) (ls : List ℕ) → AirEntries g ls n nx plane list.now → Quiet g ls (u_of (cells g) room.old) → room.new ≡ jacobi g ls (b_of (cells g) room.old) (u_of (cells g) room.old) ++ (b_of (cells g) room.old ++ (u_of (cells g) room.old ++ drop (3 * cells g) room.old)) }
+pub fn jacobi(room: &mut [f64], list: &[u32], lattice: Lattice)
+    requires all_read { AllRead lattice.n lattice.nx lattice.plane lattice.zero (length room.old) list.now }
+    requires zero_value { value room.old lattice.zero ≡ +0 }
+    ensures zero_after { value room.new lattice.zero ≡ +0 }
+    ensures room_after { (g : Sides) (ls : List ℕ) → AirEntries g ls lattice.n lattice.nx lattice.plane list.now → Quiet g ls (u_of (cells g) room.old) → room.new ≡ jacobi g ls (b_of (cells g) room.old) (u_of (cells g) room.old) ++ (b_of (cells g) room.old ++ (u_of (cells g) room.old ++ drop (3 * cells g) room.old)) }
 {
-    crate::keep_u(room, n);
-    jacobi_list(room, list, n, nx, plane, zero);
+    crate::keep_u(room, lattice.n);
+    jacobi_list(room, list, lattice);
 }
 
 // Jacobi from u = 0 at an entry's cell: b - A u is b.
@@ -93,49 +89,45 @@ pub fn jacobi_first(room: &mut [f64], list: &[u32], n: usize)
     requires n_in_bounds { 2 * n ≤ length room.old }
     ensures { (g : Sides) (ls : List ℕ) → AirEntries g ls n g.nx (g.nx * g.ny) list.now → u_of (cells g) room.old ≡ zeros g → room.new ≡ jacobi g ls (b_of (cells g) room.old) (zeros g) ++ drop (cells g) room.old }
 {
-    let mut k = 0;
-    while k < list.len() {
-        first_entry(room, n, list[k]);
-        k += 1;
+    for &e in list {
+        first_entry(room, n, e);
     }
 }
 
 // b - A u at an entry's cell, into t.
-fn residual_entry(room: &mut [f64], n: usize, nx: usize, plane: usize, zero: usize, e: u32)
-    requires reads { Reads n nx plane e }
-    requires n_bound { (3 * n ≤ zero) × (zero < length room.old) }
-    requires zero_value { value room.old zero ≡ +0 }
-    ensures zero_after { value room.new zero ≡ +0 }
-    ensures room_after { (g : Sides) (ls : List ℕ) → Entry g ls n nx plane e → room.new ≡ write_at (2 * n) (residue_new g ls) (e % 32768) room.old }
+fn residual_entry(room: &mut [f64], lattice: Lattice, e: u32)
+    requires reads { Reads lattice.n lattice.nx lattice.plane e }
+    requires n_bound { (3 * lattice.n ≤ lattice.zero) × (lattice.zero < length room.old) }
+    requires zero_value { value room.old lattice.zero ≡ +0 }
+    ensures zero_after { value room.new lattice.zero ≡ +0 }
+    ensures room_after { (g : Sides) (ls : List ℕ) → Entry g ls lattice.n lattice.nx lattice.plane e → room.new ≡ write_at (2 * lattice.n) (residue_new g ls) (e % 32768) room.old }
 {
     let c = (e % 32768) as usize;
-    let t = 2 * n;
-    let a = applied_entry(&room[..], 0, n, nx, plane, zero, e);
-    let b = room[n + c];
+    let t = 2 * lattice.n;
+    let a = applied_entry(&room[..], 0, lattice, e);
+    let b = room[lattice.n + c];
     room[t + c] = b - a;
 }
 
 // b - A u at each entry's cell, into t.
-fn residual_list(room: &mut [f64], list: &[u32], n: usize, nx: usize, plane: usize, zero: usize)
-    requires all_read { AllRead n nx plane zero (length room.old) list.now }
-    requires zero_value { value room.old zero ≡ +0 }
-    ensures zero_after { value room.new zero ≡ +0 }
-    ensures room_after { (g : Sides) (ls : List ℕ) → Entries g ls n nx plane list.now → room.new ≡ written (2 * n) (residue_new g ls) (cells_of list.now) room.old }
+fn residual_list(room: &mut [f64], list: &[u32], lattice: Lattice)
+    requires all_read { AllRead lattice.n lattice.nx lattice.plane lattice.zero (length room.old) list.now }
+    requires zero_value { value room.old lattice.zero ≡ +0 }
+    ensures zero_after { value room.new lattice.zero ≡ +0 }
+    ensures room_after { (g : Sides) (ls : List ℕ) → Entries g ls lattice.n lattice.nx lattice.plane list.now → room.new ≡ written (2 * lattice.n) (residue_new g ls) (cells_of list.now) room.old }
 {
-    let mut k = 0;
-    while k < list.len() {
-        residual_entry(room, n, nx, plane, zero, list[k]);
-        k += 1;
+    for &e in list {
+        residual_entry(room, lattice, e);
     }
 }
 
 // b - A u into t, which is cleared first.
-pub fn residual(room: &mut [f64], list: &[u32], n: usize, nx: usize, plane: usize, zero: usize)
-    requires all_read { AllRead n nx plane zero (length room.old) list.now }
-    requires zero_value { value room.old zero ≡ +0 }
-    ensures zero_after { value room.new zero ≡ +0 }
-    ensures room_after { (g : Sides) (ls : List ℕ) → AirEntries g ls n nx plane list.now → room.new ≡ u_of (cells g) room.old ++ (b_of (cells g) room.old ++ (residue g ls (b_of (cells g) room.old) (u_of (cells g) room.old) ++ drop (3 * cells g) room.old)) }
+pub fn residual(room: &mut [f64], list: &[u32], lattice: Lattice)
+    requires all_read { AllRead lattice.n lattice.nx lattice.plane lattice.zero (length room.old) list.now }
+    requires zero_value { value room.old lattice.zero ≡ +0 }
+    ensures zero_after { value room.new lattice.zero ≡ +0 }
+    ensures room_after { (g : Sides) (ls : List ℕ) → AirEntries g ls lattice.n lattice.nx lattice.plane list.now → room.new ≡ u_of (cells g) room.old ++ (b_of (cells g) room.old ++ (residue g ls (b_of (cells g) room.old) (u_of (cells g) room.old) ++ drop (3 * cells g) room.old)) }
 {
-    crate::clear_from(room, 2 * n, n);
-    residual_list(room, list, n, nx, plane, zero);
+    rooms::clear_front(&mut room[2 * lattice.n..], lattice.n, 0.0);
+    residual_list(room, list, lattice);
 }

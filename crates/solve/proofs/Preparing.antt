@@ -6,12 +6,10 @@ use borrow.Author.Rules.{rules}
 use lib.ListN.{length}
 use Rattle.method.specs.declared.Sides.{Sides}
 use Rattle.theory.specs.Levels.{air_before}
-use Rattle.levels.specs.declared.sides.Levels.{Levels}
-use Rattle.bands.specs.declared.lists.Lists.{Lists}
 use Rattle.levels.specs.Rooms.{written}
-use Rattle.levels.specs.Levels.{levels_of, base}
+use Rattle.levels.specs.Levels.{levels_of, base, Levels}
 use Rattle.levels.specs.AllLabels.{LabelsAsked, all_labels}
-use Rattle.bands.specs.AllLists.{base_labels, AllListed, ListsAsked}
+use Rattle.bands.specs.AllLists.{base_labels, AllListed, ListsAsked, Lists}
 use Rattle.levels.proofs.Calls.{base_is, labels_asked}
 use Rattle.bands.proofs.Calls.{base_labels_lem, lists_asked}
 use Rattle.cycle.proofs.Calls.{prepared_from}

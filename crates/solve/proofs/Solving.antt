@@ -27,8 +27,9 @@ use Rattle.theory.proofs.Verdicts.{AllPass, all_pass, no_fault}
 use Rattle.theory.proofs.Accepted.{fit_sides, some_air, reaching}
 use Rattle.theory.proofs.Reach.{test_air}
 use Rattle.grid.proofs.Steps.{cells_most}
-use Rattle.checks.specs.declared.Ruling.{Ruling}
-use Rattle.checks.specs.declared.Ruling.TheVariants.{Refused, Allowed}
+use Rattle.std.specs.Prelude.{Result, Ok, Err}
+use Rattle.answers.specs.declared.Fault.{Fault}
+use Rattle.answers.specs.Faults.{number_of, place_of}
 use Rattle.checks.specs.Rulings.{ruling_of}
 use Rattle.rounds.specs.Rounds.{cast_of}
 use Rattle.solve.specs.Solve.{asked, SolveOf}
@@ -102,8 +103,8 @@ module _ (g : Sides) (ls : List ℕ) (vs : List ℤ) (t : Settings) (ps : List �
       let m = both (leb (float_need (cells g)) (length floats)) (leb (word_need (cells g)) (length words)) l.1 in
       (eqb-true _ _ i.0, eqb-true _ _ j.0, eqb-true _ _ k.0, leb-true _ _ l.0, leb-true _ _ m.0, leb-true _ _ m.1)
 
-  pub known : (r : Ruling) → verdict checks_before7 a ≡ ruling_of r → r ≡ Allowed → Known
-  unfolding checks_before7 byte_need float_need word_need ruling_of
+  pub known : (r : Result (Unit {0}) Fault) → verdict checks_before7 a ≡ ruling_of r → r ≡ Ok tt → Known
+  unfolding checks_before7 byte_need float_need word_need
   known r e h =
       let fine : verdict checks_before7 a ≡ passed = e ∙ ap ruling_of h in
       let ok = all_pass checks_before7 a fine in
@@ -192,10 +193,10 @@ module _ (g : Sides) (ls : List ℕ) (vs : List ℤ) (t : Settings) (ps : List �
           }
 
   -- refused before 7: nothing lent is changed
-  pub refused_is : (r : Ruling) (num place : ℕ) (w : Answer) → verdict checks_before7 a ≡ ruling_of r → r ≡ Refused num place → w ≡ refusal num place → SolveOf a w ps bytes floats words
-  unfolding ruling_of untouched
-  refused_is r num place w e h q =
-      let s : solving a ≡ untouched a (refusal num place) = before_seven a num place (e ∙ ap ruling_of h) in
+  pub refused_is : (r : Result (Unit {0}) Fault) (e : Fault) (w : Answer) → verdict checks_before7 a ≡ ruling_of r → r ≡ Err e → w ≡ refusal (number_of e) (place_of e) → SolveOf a w ps bytes floats words
+  unfolding untouched
+  refused_is r e w v h q =
+      let s : solving a ≡ untouched a (refusal (number_of e) (place_of e)) = before_seven a (number_of e) (place_of e) (v ∙ ap ruling_of h) in
       record {
         answer = q ∙ sym (ap (λ (x : Solved). x.answer) s);
         pressures = sym (ap (λ (x : Solved). x.pressures) s);
@@ -203,5 +204,3 @@ module _ (g : Sides) (ls : List ℕ) (vs : List ℤ) (t : Settings) (ps : List �
         float_room = sym (ap (λ (x : Solved). x.floats) s);
         word_room = sym (ap (λ (x : Solved). x.words) s);
       }
-
-pub ruleset solves = (rules, refused_is)

@@ -1,14 +1,14 @@
 -- What the solver is asked, and its promise.
-use Rattle.std.specs.Prelude.{ℕ, ◌≡◌, Bool, not, ◌&&◌, List, ltb, leb, eqb, ℤ, Float}
+use Rattle.std.specs.Prelude.{ℕ, ◌≡◌, Bool, ◌&&◌, List, ltb, leb, eqb, ℤ, Float, Result}
 use Rattle.method.specs.declared.Sides.{Sides}
 use Rattle.method.specs.declared.Settings.{Settings}
 use Rattle.method.specs.declared.Answer.{Answer}
 use Rattle.method.specs.Cast.{settings_fit, interior}
-use Rattle.method.specs.Answers.{fault}
 use Rattle.method.specs.Rooms.{byte_need, float_need, word_need}
 use Rattle.method.specs.Solving.{Asked, solving}
-use Rattle.checks.specs.declared.Ruling.{Ruling}
-use Rattle.checks.specs.Rulings.{ruling_by, first_of}
+use Rattle.answers.specs.declared.Fault.{Fault}
+use Rattle.answers.specs.declared.Fault.TheVariants.{SettingOutOfRange, NoAir}
+use Rattle.checks.specs.Rulings.{unless, first_of}
 use Rattle.checks.specs.Faults.{cell_ruling}
 use Rattle.rounds.specs.Rounds.{cast_of}
 
@@ -31,6 +31,6 @@ lengths_by n labels values pressures bytes floats words =
     eqb labels n && (eqb values n && (eqb pressures n && (leb (byte_need n) bytes && (leb (float_need n) floats && leb (word_need n) words))))
 
 -- checks 3 to 6
-unfoldable pub content_ruling : Sides → List ℕ → List ℤ → Settings → ℕ → Ruling
+abbrev pub content_ruling : Sides → List ℕ → List ℤ → Settings → ℕ → Result (Unit {0}) Fault
 content_ruling g ls vs t n =
-    first_of (ruling_by 3 (fault (not (settings_fit t)))) (first_of (cell_ruling ls vs n) (ruling_by 6 (fault (not (ltb 0 (interior g ls))))))
+    first_of (unless SettingOutOfRange (settings_fit t)) (first_of (cell_ruling ls vs n) (unless NoAir (ltb 0 (interior g ls))))

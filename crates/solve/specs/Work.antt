@@ -1,9 +1,8 @@
 -- Past check 6: what is prepared, what is run, and what it comes to.
-use Rattle.std.specs.Prelude.{ℕ, ◌≤◌, ◌≡◌, List, length, ℤ}
+use Rattle.std.specs.Prelude.{ℕ, ◌≤◌, ◌≡◌, List, length, ℤ, None}
 use Rattle.method.specs.declared.Sides.{Sides}
 use Rattle.method.specs.declared.Settings.{Settings}
 use Rattle.method.specs.declared.Answer.{Answer}
-use Rattle.method.specs.declared.Found.TheVariants.{Nowhere}
 use Rattle.method.specs.Cast.{Cast, cells, label_at, interior}
 use Rattle.method.specs.Walks.{depth, sealed}
 use Rattle.method.specs.Answers.{passed, refused, verdict, refusal}
@@ -58,7 +57,7 @@ pub record Checked (g : Sides) (ls : List ℕ) (vs : List ℤ) (t : Settings) (p
   pub levels_most : t.levels ≤ 6
   pub tolerance : t.tolerance ≤ 1000000
   pub limit : t.rounds ≤ 1000
-  pub reached : sealed g ls ≡ Nowhere → (i : ℕ) → label_at ls i ≡ 0 → (k : ℕ) × Walk g ls i k
+  pub reached : sealed g ls ≡ None → (i : ℕ) → label_at ls i ≡ 0 → (k : ℕ) × Walk g ls i k
   pub first_air : ℕ
   pub first_is_air : label_at ls first_air ≡ 0
   pub bytes_long : bytes ≡ byte_need (cells g)

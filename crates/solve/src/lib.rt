@@ -10,10 +10,9 @@ ghost use Rattle.rounds.specs.Rounds.{cast_of};
 ghost use Rattle.solve.specs.Solve.{asked, SolveOf};
 ghost use Rattle.solve.specs.Work.{Checked, Worked, RunAsked, Ran};
 
-use answers::{Ended, Measured, accepted, refusal, unfinished};
-use checks::Ruling;
+use answers::{Fault, Measured, accepted, unfinished};
 use judge::judge;
-use method::{Answer, Found, Settings, Sides};
+use method::{Answer, Settings, Sides};
 use prepare::prepare;
 use rooms::clear;
 use rounds::Plan;
@@ -35,13 +34,13 @@ pub fn run(
     ensures { Ran (cast_of sides labels.now values.now) settings pressures.old result pressures.new }
 {
     match rounds::run(floats, bytes, words, plan, labels, values, settings, sides) {
-        Ended::Accepted(rounds, worst) => {
+        Ok(passed) => {
             let n = labels.len();
             acceptance::write_ticks(pressures, sides, labels, values, &floats[0..n]);
-            let at = worst::worst_of(sides, labels, values, &floats[0..n], worst);
-            accepted(rounds, worst, at, of)
+            let at = worst::worst_of(sides, labels, values, &floats[0..n], passed.worst);
+            accepted(passed.rounds, passed.worst, at, of)
         }
-        Ended::Unfinished(number, rounds) => unfinished(number, rounds, of),
+        Err(halt) => unfinished(halt.number(), halt.rounds(), of),
     }
 }
 
@@ -60,10 +59,9 @@ fn work(
     ensures { Worked (cast_of sides labels.now values.now) settings pressures.old result pressures.new }
 {
     let walked = distances::distances(words, labels, sides);
-    let sealed = walked.sealed;
-    match sealed {
-        Found::At(place) => refusal(7, place),
-        Found::Nowhere => {
+    match walked.sealed {
+        Some(cell) => Answer::from(Fault::SealedAir(cell)),
+        None => {
             let of = Measured {
                 interior: grid::interior::interior(labels, sides),
                 depth: walked.depth,
@@ -109,8 +107,8 @@ pub fn solve(
         &floats[..],
         &words[..],
     ) {
-        Ruling::Refused(number, place) => refusal(number, place),
-        Ruling::Allowed => {
+        Err(fault) => Answer::from(fault),
+        Ok(()) => {
             let n = labels.len();
             let b = 2 * n + 16;
             let f = 8 * n + 64;

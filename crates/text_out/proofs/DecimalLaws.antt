@@ -1,14 +1,13 @@
 -- Laws of decimal digits: counted, and put with the last digit last. Assumes nothing.
-use mathlib.Core.Path.{◌≡◌, ap, ◌∙◌}
+use mathlib.Core.Path.{◌≡◌, sym, ap, ◌∙◌}
 use mathlib.Core.Logic.{⊎_elim}
 use mathlib.Core.List.{List, [], ◌∷◌, ◌++◌}
+use Rattle.std.specs.Prelude.{Option, None, Some, IfSome, IfNone, unwrap_or}
 use Prim.Native.Nat.{ℕ, zero, suc, ◌+◌, ◌*◌, ◌/◌, ◌%◌, ◌^◌, ◌≤◌, ◌<◌}
 use native.Mathlib.Nat.{mod-lt, pow-succ'}
 use native.Mathlib.Omega.{arith}
 use borrow.Author.Rules.{rules}
 use lib.ListN.{length, length-append}
-use mir.Syntax.{w64}
-use mir.Val.{Fits}
 use Rattle.laws.proofs.Naturals.{le_or_lt}
 use Rattle.method.specs.Numbers.{decimal}
 use Rattle.theory.proofs.Digits.{decimal_short, decimal_more}
@@ -40,47 +39,51 @@ most_digits (suc k) n h = ⊎_elim
 few_digits : (n : ℕ) → n < 2 ^ 64 → length (decimal n) ≤ 20
 few_digits n h = most_digits 19 n (omega arith)
 
--- k digits are counted, with one of the rest
-pub record Counting (n k rest : ℕ) : Type 0 where
-  pub is : k + length (decimal rest) ≡ length (decimal n) + 1
+-- a number that is at least ten to the k has more than k digits
+pub least_digits : (k n : ℕ) → 0 < n → 10 ^ k ≤ n → suc k ≤ length (decimal n)
+least_digits zero n p h = ⊎_elim (λ l. omega (arith, length_large n l)) (λ l. omega (arith, length_small n l)) (le_or_lt 10 n)
+least_digits (suc k) n p h =
+    let f : 10 * 10 ^ k ≤ n = rw (pow-succ' 10 k) at h in
+    let g : 10 ^ k ≤ n / 10 = omega (arith, f) in
+    let o : 1 ≤ 10 ^ k = one_le_pow k in
+    omega (arith, length_large n (omega (arith, f, o)), least_digits k (n / 10) (omega (arith, g, o)) g)
+  where
+    one_le_pow : (k : ℕ) → 1 ≤ 10 ^ k
+    one_le_pow zero = omega arith
+    one_le_pow (suc k) = rw (pow-succ' 10 k) (omega (arith, one_le_pow k))
 
-pub counting_none : (n : ℕ) → Counting n 1 n
-counting_none n = record { is = omega arith }
+-- so many digits, by the logarithm, where there is one
+pub digits_counted : (n : ℕ) (o : Option ℕ) → n < 2 ^ 64 → IfNone o (n ≡ 0) → IfSome o (λ k. 10 ^ k ≤ n) → IfSome o (λ k. n < 10 * 10 ^ k) → DigitsOf n (1 + unwrap_or o 0)
+digits_counted n None f z l m = record { is = sym (length_small n (omega (arith, z))); few = omega arith }
+digits_counted n (Some k) f z l m =
+    let p : 0 < n = omega (arith, l) in
+    record {
+      is = omega (arith, least_digits k n p l, most_digits k n (rw (pow-succ' 10 k) m));
+      few = omega (arith, least_digits k n p l, few_digits n f);
+    }
 
-pub counting_more : (n k rest : ℕ) → 10 ≤ rest → Counting n k rest → Counting n (k + 1) (rest / 10)
-counting_more n k rest h c = record { is = omega (arith, c.is, length_large rest h) }
-
-pub counting_fits : (n k rest : ℕ) → n < 2 ^ 64 → Counting n k rest → Fits w64 (k + 1)
-counting_fits n k rest h c = record { fits = omega (arith, c.is, few_digits n h) }
-
-pub counting_end : (n k rest : ℕ) → n < 2 ^ 64 → rest < 10 → Counting n k rest → DigitsOf n k
-counting_end n k rest h l c = record { is = omega (arith, c.is, length_small rest l); few = omega (arith, c.is, length_small rest l, few_digits n h) }
-
-pub shrinks : (rest : ℕ) → 10 ≤ rest → rest / 10 < rest
-shrinks rest h = omega arith
-
-pub ruleset countings = (rules, counting_none, counting_more, counting_fits, counting_end, shrinks)
+pub ruleset countings = (rules, digits_counted)
 
 -- ---- a number put, its last digit last
-pub put_small : (n : ℕ) (a b : List ℕ) (i j : ℕ) → n < 10 → Put ((48 + n) ∷ []) a i b j → Put (decimal n) a i b j
-put_small n a b i j h p = rw (decimal_short n h) p
+pub put_small : (n : ℕ) (a b : List ℕ) (i j : ℕ) → n < 10 → Put ((48 + n % 10) ∷ []) a i b j → Put (decimal n) a i b j
+put_small n a b i j h p = rw (decimal_short n h, ap (λ d. (48 + d) ∷ []) (small n h)) p
+  where
+    small : (n : ℕ) → n < 10 → n ≡ n % 10
+    small n h = omega arith
 
 pub put_large : (n : ℕ) (a b c : List ℕ) (i j k : ℕ) → 10 ≤ n → Put (decimal (n / 10)) a i b j → Put ((48 + n % 10) ∷ []) b j c k → Put (decimal n) a i c k
 put_large n a b c i j k h p q = rw (decimal_large n h) (put_then p q)
 
-pub small_room : (n i m : ℕ) → n < 10 → i + length (decimal n) ≤ m → i < m
+pub small_room : (n i m : ℕ) → n < 10 → i + length (decimal n) ≤ m → i + 1 ≤ m
 small_room n i m h r = omega (arith, length_small n h)
 
 pub large_room_lem : (n i m : ℕ) → 10 ≤ n → i + length (decimal n) ≤ m → i + length (decimal (n / 10)) ≤ m
 large_room_lem n i m h r = omega (arith, length_large n h)
 
-pub last_room : (n : ℕ) (a b : List ℕ) (i j : ℕ) → 10 ≤ n → i + length (decimal n) ≤ length a → Put (decimal (n / 10)) a i b j → j < length b
+pub last_room : (n : ℕ) (a b : List ℕ) (i j : ℕ) → 10 ≤ n → i + length (decimal n) ≤ length a → Put (decimal (n / 10)) a i b j → j + 1 ≤ length b
 last_room n a b i j h r p = omega (arith, length_large n h, p.next, put_length p)
-
-pub last_digit_lem : (n : ℕ) → n % 10 < 10
-last_digit_lem n = mod-lt n (omega arith)
 
 pub falls : (n t : ℕ) → 10 ≤ n → n ≡ t → n / 10 < t
 falls n t h e = omega arith
 
-pub ruleset decimals = (rules, put_small, put_large, small_room, large_room_lem, last_room, last_digit_lem, falls)
+pub ruleset decimals = (rules, put_small, put_large, small_room, large_room_lem, last_room, falls)

@@ -1,38 +1,28 @@
 // Numbers as decimal digits.
-ghost use Rattle.std.specs.Prelude.{[], ◌∷◌, ◌+◌, ◌<◌, ◌≤◌, length};
+ghost use Rattle.std.specs.Prelude.{length};
 ghost use Rattle.method.specs.Numbers.{decimal};
-ghost use Rattle.text_out.specs.Puts.{Put, DigitsOf};
+ghost use Rattle.text_out.specs.Puts.{DigitsOf, Room, Puts};
+
+use crate::Sink;
 
 // How many digits a number has.
 pub fn digits_of(n: u64) -> usize
     ensures { DigitsOf n result }
 {
-    let mut k = 1;
-    let mut rest = n;
-    while 10 <= rest {
-        rest = rest / 10;
-        k += 1;
-    }
-    k
+    1 + n.checked_ilog10().unwrap_or(0) as usize
 }
 
-// Puts one digit at a place, and answers the place after it.
-fn put_digit(output: &mut [u8], at: usize, d: u64) -> usize
-    requires { (d < 10) × (at < length output.old) }
-    ensures { Put ((48 + d) ∷ []) output.old at output.new result }
-{
-    output[at] = (48 + d) as u8;
-    at + 1
-}
-
-// Puts a number's digits at a place, and answers the place after them.
-pub(crate) fn put_decimal(output: &mut [u8], at: usize, n: u64) -> usize
-    requires { at + length (decimal n) ≤ length output.old }
-    ensures { Put (decimal n) output.old at output.new result }
-{
-    if n < 10 {
-        return put_digit(output, at, n);
+impl Sink<'_> {
+    // Puts a number's digits.
+    // Kept: `write!` is no plainer. It goes through `fmt::Write`, whose contract leaves open when a write fails, so that a
+    // put that cannot fail is not made of it.
+    pub(crate) fn put_decimal(&mut self, n: u64)
+        requires { Room (length (decimal n)) self.old }
+        ensures { Puts (decimal n) self.old self.new }
+    {
+        if 10 <= n {
+            self.put_decimal(n / 10);
+        }
+        self.put(&[(48 + n % 10) as u8]);
     }
-    let next = put_decimal(output, at, n / 10);
-    put_digit(output, next, n % 10)
 }

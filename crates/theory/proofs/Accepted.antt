@@ -9,8 +9,7 @@ use lib.ListN.{length, get_or}
 use lib.IntN.{nat_abs}
 use borrow.Author.Tests.{eq-eqb}
 use Rattle.laws.proofs.Bools.{and_l, and_r, and_in, so}
-use Rattle.method.specs.declared.Found.{Found}
-use Rattle.method.specs.declared.Found.TheVariants.{Nowhere, At}
+use Rattle.std.specs.Prelude.{Option, None, Some}
 use Rattle.method.specs.Cast.{is_air, judged, worst, interior, sides_fit}
 use Rattle.method.specs.Walks.{depth, is_at, steps_of, walk, sealed}
 use Rattle.method.specs.Answers.{accepted, refusal, unfinished}
@@ -49,58 +48,58 @@ module _ (a : Asked) (ok : AllPass checks_before7 a) where
       clash p q = true≢false (sym q ∙ p)
 
 -- ---- walks
-not_found : (f : Found) → T (not (is_at f)) → f ≡ Nowhere
+not_found : (f : Option ℕ) → T (not (is_at f)) → f ≡ None
 unfolding is_at
-not_found Nowhere t = refl
-not_found (At d) t = absurd t
+not_found None t = refl
+not_found (Some d) t = absurd t
 
 module _ (a : Asked) (ok : AllPass checks_before7 a) where
-  away : (c d : ℕ) → label a c ≡ 0 → get_or (walk a.cast.sides a.cast.labels) c Nowhere ≡ At d → Away a c d
+  away : (c d : ℕ) → label a c ≡ 0 → get_or (walk a.cast.sides a.cast.labels) c None ≡ Some d → Away a c d
   away c d e h = let r = least_walk a.cast.sides a.cast.labels (sized a ok) c d e h in record { walk = r.0; least = r.1 }
 
   cut : ℕ → Bool
-  cut c = is_air a.cast.labels c && not (is_at (get_or (walk a.cast.sides a.cast.labels) c Nowhere))
+  cut c = is_air a.cast.labels c && not (is_at (get_or (walk a.cast.sides a.cast.labels) c None))
 
   -- an air cell that is not cut off has a least walk
-  has_walk : (c : ℕ) → label a c ≡ 0 → T (not (cut c)) → (d : ℕ) × (get_or (walk a.cast.sides a.cast.labels) c Nowhere ≡ At d) × Away a c d
+  has_walk : (c : ℕ) → label a c ≡ 0 → T (not (cut c)) → (d : ℕ) × (get_or (walk a.cast.sides a.cast.labels) c None ≡ Some d) × Away a c d
   unfolding cut is_at
-  has_walk c e t = found_cases (get_or (walk a.cast.sides a.cast.labels) c Nowhere)
+  has_walk c e t = found_cases (get_or (walk a.cast.sides a.cast.labels) c None)
       (λ d h. (d, h, away c d e h))
-      (λ h. absurd (T_not (is_air a.cast.labels c && not (is_at (get_or (walk a.cast.sides a.cast.labels) c Nowhere))) t
-      (and_in (is_air a.cast.labels c) (not (is_at (get_or (walk a.cast.sides a.cast.labels) c Nowhere))) (air_test a.cast.labels c e) (rw h tt))))
+      (λ h. absurd (T_not (is_air a.cast.labels c && not (is_at (get_or (walk a.cast.sides a.cast.labels) c None))) t
+      (and_in (is_air a.cast.labels c) (not (is_at (get_or (walk a.cast.sides a.cast.labels) c None))) (air_test a.cast.labels c e) (rw h tt))))
 
   -- a cast past check 7 has a walk for every air cell
-  pub reaching : sealed a.cast.sides a.cast.labels ≡ Nowhere → (c : ℕ) → label a c ≡ 0
-      → (d : ℕ) × (get_or (walk a.cast.sides a.cast.labels) c Nowhere ≡ At d) × Away a c d
+  pub reaching : sealed a.cast.sides a.cast.labels ≡ None → (c : ℕ) → label a c ≡ 0
+      → (d : ℕ) × (get_or (walk a.cast.sides a.cast.labels) c None ≡ Some d) × Away a c d
   unfolding sealed cut
   reaching q c e = go (search_first cut (size a))
     where
-      go : Search cut (size a) → (d : ℕ) × (get_or (walk a.cast.sides a.cast.labels) c Nowhere ≡ At d) × Away a c d
+      go : Search cut (size a) → (d : ℕ) × (get_or (walk a.cast.sides a.cast.labels) c None ≡ Some d) × Away a c d
       go (found p h r) = absurd (never q h)
       go (none h r) = has_walk c e (r c (in_box_lem (size a) a.cast.labels (sized a ok) c (omega arith)))
 
-  pub cut_off_is : (place : ℕ) → sealed a.cast.sides a.cast.labels ≡ At place → CutOff a place
+  pub cut_off_is : (place : ℕ) → sealed a.cast.sides a.cast.labels ≡ Some place → CutOff a place
   unfolding sealed cut
   cut_off_is place q = go (search_first cut (size a))
     where
       go : Search cut (size a) → CutOff a place
       go (none h r) = absurd (never h q)
       go (found p h r) = subst (CutOff a) (same_steps h q) record {
-        air = test_air a.cast.labels p (and_l (is_air a.cast.labels p) (not (is_at (get_or (walk a.cast.sides a.cast.labels) p Nowhere))) r.here);
+        air = test_air a.cast.labels p (and_l (is_air a.cast.labels p) (not (is_at (get_or (walk a.cast.sides a.cast.labels) p None))) r.here);
         no_walk = no_walk a.cast.sides a.cast.labels (sized a ok) p
-            (test_air a.cast.labels p (and_l (is_air a.cast.labels p) (not (is_at (get_or (walk a.cast.sides a.cast.labels) p Nowhere))) r.here))
-            (not_found (get_or (walk a.cast.sides a.cast.labels) p Nowhere) (and_r (is_air a.cast.labels p) (not (is_at (get_or (walk a.cast.sides a.cast.labels) p Nowhere))) r.here));
+            (test_air a.cast.labels p (and_l (is_air a.cast.labels p) (not (is_at (get_or (walk a.cast.sides a.cast.labels) p None))) r.here))
+            (not_found (get_or (walk a.cast.sides a.cast.labels) p None) (and_r (is_air a.cast.labels p) (not (is_at (get_or (walk a.cast.sides a.cast.labels) p None))) r.here));
         before = λ c l e. let w = has_walk c e (r.before c l) in (w.0, w.2);
       }
 
 -- ---- a state that passes the test
-made : (a : Asked) (st : State) → passes a.cast a.settings st.x ≡ true → AllPass checks_before7 a → sealed a.cast.sides a.cast.labels ≡ Nowhere
+made : (a : Asked) (st : State) → passes a.cast a.settings st.x ≡ true → AllPass checks_before7 a → sealed a.cast.sides a.cast.labels ≡ None
     → Accepted a (handed_back a (answer_of a.cast (pass a.cast a.settings st)) (rounded a.cast st.x))
 unfolding handed_back answer_of pass accepted worst depth judged steps_of
 made a st t p q =
     let some = some_air a p in
     let size-at : ℕ → ℕ = λ c. nat_abs (left a (rounded a.cast st.x) c) in
-    let steps-at : ℕ → ℕ = λ c. steps_of (get_or (walk a.cast.sides a.cast.labels) c Nowhere) in
+    let steps-at : ℕ → ℕ = λ c. steps_of (get_or (walk a.cast.sides a.cast.labels) c None) in
     let top = greatest_attained (is_air a.cast.labels) size-at (size a) some.0 some.1 some.2 in
     let there = where_worst a.cast (rounded a.cast st.x) some.0 some.1 some.2 in
     let deep = greatest_attained (is_air a.cast.labels) steps-at (size a) some.0 some.1 some.2 in
@@ -132,7 +131,7 @@ pub record Came (a : Asked) : Type 0 where
   pub st : State
   pub passing : passes a.cast a.settings st.x ≡ true
   pub checked : AllPass checks_before7 a
-  pub none_sealed : sealed a.cast.sides a.cast.labels ≡ Nowhere
+  pub none_sealed : sealed a.cast.sides a.cast.labels ≡ None
   pub result : solving a ≡ handed_back a (answer_of a.cast (pass a.cast a.settings st)) (rounded a.cast st.x)
 
 pub came_about : (a : Asked) → (solving a).answer.number ≡ 0 → Came a

@@ -2,7 +2,7 @@
 use mathlib.Core.Path.{◌≡◌, refl, sym, ap, ap₂, subst, ◌∙◌}
 use mathlib.Core.Bool.{Bool, true, false, cond}
 use mathlib.Core.List.{List, [], ◌∷◌, ◌++◌, append_assoc}
-use mathlib.Core.Option.{Option, none, some}
+use Rattle.std.specs.Prelude.{Option, None, Some}
 use Prim.Native.Nat.{ℕ, zero, suc, ◌^◌, ◌<◌}
 use native.Mathlib.Omega.{arith}
 use lib.Dec.{eqb, eqb→eq}
@@ -15,7 +15,6 @@ use Rattle.method.specs.declared.Order.{Order}
 use Rattle.method.specs.declared.Order.TheVariants.{Big, Little}
 use Rattle.method.specs.declared.Sides.{Sides}
 use Rattle.method.specs.declared.Settings.{Settings}
-use Rattle.method.specs.declared.Found.TheVariants.{Nowhere}
 use Rattle.method.specs.Cast.{between}
 use Rattle.method.specs.OldForm.{number_to}
 use Rattle.method.specs.Numbers.{decimal, is_digit, digits, is_number, value_of}
@@ -26,58 +25,58 @@ use Rattle.theory.proofs.Reach.{never}
 -- ---- the bytes after those that are asked for
 taken : Bool → Option (List ℕ) → Option (List ℕ)
 taken true o = o
-taken false o = none
+taken false o = None
 
 after_cons : (k : ℕ) (ks : List ℕ) (b : ℕ) (bs : List ℕ) → after (k ∷ ks) (b ∷ bs) ≡ taken (eqb b k) (after ks bs)
 unfolding after taken
 after_cons k ks b bs = go (eqb b k)
   where
-    go : (t : Bool) → elim t [ true ↦ after ks bs | false ↦ none ] ≡ taken t (after ks bs)
+    go : (t : Bool) → elim t [ true ↦ after ks bs | false ↦ None ] ≡ taken t (after ks bs)
     go true = refl
     go false = refl
 
-pub after_own : (ks rest : List ℕ) → after ks (ks ++ rest) ≡ some rest
+pub after_own : (ks rest : List ℕ) → after ks (ks ++ rest) ≡ Some rest
 unfolding after taken
 after_own [] rest = refl
 after_own (k ∷ ks) rest = after_cons k ks k (ks ++ rest) ∙ ap₂ taken (eq-eqb k k refl) (after_own ks rest)
 
-same_some : {o : Option (List ℕ)} {a b : List ℕ} → o ≡ some a → o ≡ some b → a ≡ b
+same_some : {o : Option (List ℕ)} {a b : List ℕ} → o ≡ Some a → o ≡ Some b → a ≡ b
 same_some p q = cc
 
-no_some : {a : List ℕ} {o : Option (List ℕ)} → o ≡ none → o ≡ some a → ⊥
+no_some : {a : List ℕ} {o : Option (List ℕ)} → o ≡ None → o ≡ Some a → ⊥
 no_some p q = let z : ◌≡◌ {A = ℕ} 0 1 = cc in omega arith
 
-pub after_is : (ks bs rest : List ℕ) → after ks bs ≡ some rest → bs ≡ ks ++ rest
+pub after_is : (ks bs rest : List ℕ) → after ks bs ≡ Some rest → bs ≡ ks ++ rest
 unfolding after taken
 after_is [] bs rest e = same_some refl e
 after_is (k ∷ ks) [] rest e = absurd (no_some refl e)
 after_is (k ∷ ks) (b ∷ bs) rest e = go (eqb b k) refl (sym (after_cons k ks b bs) ∙ e) (after_is ks bs rest)
   where
-    go : (t : Bool) → eqb b k ≡ t → taken t (after ks bs) ≡ some rest → (after ks bs ≡ some rest → bs ≡ ks ++ rest) → b ∷ bs ≡ k ∷ (ks ++ rest)
+    go : (t : Bool) → eqb b k ≡ t → taken t (after ks bs) ≡ Some rest → (after ks bs ≡ Some rest → bs ≡ ks ++ rest) → b ∷ bs ≡ k ∷ (ks ++ rest)
     go true q r f = ap₂ (λ x l. x ∷ l) (eqb→eq b k (so q)) (f r)
     go false q r f = absurd (no_some refl r)
 
 -- ---- a number after a key, up to an end: one byte that is no digit
 held : List ℕ → Option (List ℕ) → Line
-held end none = bad
-held end (some cs) = closed (digits cs) (after end (drop (length (digits cs)) cs))
+held end None = bad
+held end (Some cs) = closed (digits cs) (after end (drop (length (digits cs)) cs))
 
 to_held : (end key bs : List ℕ) → number_to end key bs ≡ held end (after key bs)
 unfolding number_to held
 to_held end key bs = go (after key bs)
   where
-    go : (o : Option (List ℕ)) → elim o [ none ↦ bad | some cs ↦ closed (digits cs) (after end (drop (length (digits cs)) cs)) ] ≡ held end o
-    go none = refl
-    go (some cs) = refl
+    go : (o : Option (List ℕ)) → elim o [ None ↦ bad | Some cs ↦ closed (digits cs) (after end (drop (length (digits cs)) cs)) ] ≡ held end o
+    go None = refl
+    go (Some cs) = refl
 
 -- a line of a key and a number is one up to a line feed
 pub line_to : (key bs : List ℕ) → number_line key bs ≡ number_to (text "\n") key bs
 unfolding number_line held
 line_to key bs = go (after key bs) ∙ sym (to_held (text "\n") key bs)
   where
-    go : (o : Option (List ℕ)) → elim o [ none ↦ bad | some cs ↦ closed (digits cs) (after (text "\n") (drop (length (digits cs)) cs)) ] ≡ held (text "\n") o
-    go none = refl
-    go (some cs) = refl
+    go : (o : Option (List ℕ)) → elim o [ None ↦ bad | Some cs ↦ closed (digits cs) (after (text "\n") (drop (length (digits cs)) cs)) ] ≡ held (text "\n") o
+    go None = refl
+    go (Some cs) = refl
 
 to_split : (x : ℕ) (key word rest : List ℕ) → key ++ word ++ (x ∷ []) ++ rest ≡ key ++ (word ++ (x ∷ rest))
 to_split x key word rest = append_assoc (key ++ word) (x ∷ []) rest ∙ append_assoc key word (x ∷ rest)
@@ -115,13 +114,13 @@ pub record SpeltTo (x : ℕ) (key bs : List ℕ) (v : ℕ) (rest : List ℕ) : T
   pub bytes : bs ≡ key ++ decimal v ++ (x ∷ []) ++ rest
   pub small : v < 10 ^ 7
 
-spelt_held : (x : ℕ) (cs : List ℕ) (v : ℕ) (rest : List ℕ) → held (x ∷ []) (some cs) ≡ good v rest → (cs ≡ decimal v ++ (x ∷ rest)) × (v < 10 ^ 7)
+spelt_held : (x : ℕ) (cs : List ℕ) (v : ℕ) (rest : List ℕ) → held (x ∷ []) (Some cs) ≡ good v rest → (cs ≡ decimal v ++ (x ∷ rest)) × (v < 10 ^ 7)
 unfolding held closed
 spelt_held x cs v rest e = go (after (x ∷ []) (drop (length (digits cs)) cs)) refl e
   where
     go : (o : Option (List ℕ)) → after (x ∷ []) (drop (length (digits cs)) cs) ≡ o → closed (digits cs) o ≡ good v rest → (cs ≡ decimal v ++ (x ∷ rest)) × (v < 10 ^ 7)
-    go none q r = absurd (not_good refl r)
-    go (some l) q r = num (is_number (digits cs)) refl r
+    go None q r = absurd (not_good refl r)
+    go (Some l) q r = num (is_number (digits cs)) refl r
       where
         num : (t : Bool) → is_number (digits cs) ≡ t → cond t (good (value_of 0 (digits cs)) l) bad ≡ good v rest → (cs ≡ decimal v ++ (x ∷ rest)) × (v < 10 ^ 7)
         num false n s = absurd (not_good refl s)
@@ -138,8 +137,8 @@ unfolding held
 to_number x key bs v rest e = go (after key bs) refl (sym (to_held (x ∷ []) key bs) ∙ e)
   where
     go : (o : Option (List ℕ)) → after key bs ≡ o → held (x ∷ []) o ≡ good v rest → SpeltTo x key bs v rest
-    go none q r = absurd (not_good refl r)
-    go (some cs) q r =
+    go None q r = absurd (not_good refl r)
+    go (Some cs) q r =
         let s = spelt_held x cs v rest r in
         record { bytes = after_is key bs cs q ∙ ap (λ l. key ++ l) s.0 ∙ sym (to_split x key (decimal v) rest); small = s.1 }
 
@@ -165,24 +164,24 @@ order_code Big = refl
 order_code Little = refl
 
 second : Option (List ℕ) → Line
-second none = bad
-second (some rest) = good 1 rest
+second None = bad
+second (Some rest) = good 1 rest
 
 first_of : Option (List ℕ) → Option (List ℕ) → Line
-first_of none o = second o
-first_of (some rest) o = good 0 rest
+first_of None o = second o
+first_of (Some rest) o = good 0 rest
 
 order_held : (bs : List ℕ) → order_line bs ≡ first_of (after (text "order=big\n") bs) (after (text "order=little\n") bs)
 unfolding order_line first_of second
 order_held bs = go (after (text "order=big\n") bs) (after (text "order=little\n") bs)
   where
-    go : (a b : Option (List ℕ)) → elim a [ some rest ↦ good 0 rest | none ↦ elim b [ some rest ↦ good 1 rest | none ↦ bad ] ] ≡ first_of a b
-    go (some rest) b = refl
-    go none (some rest) = refl
-    go none none = refl
+    go : (a b : Option (List ℕ)) → elim a [ Some rest ↦ good 0 rest | None ↦ elim b [ Some rest ↦ good 1 rest | None ↦ bad ] ] ≡ first_of a b
+    go (Some rest) b = refl
+    go None (Some rest) = refl
+    go None None = refl
 
 -- the two lines differ in their seventh byte
-other_order : (rest : List ℕ) → after (text "order=big\n") (text "order=little\n" ++ rest) ≡ none
+other_order : (rest : List ℕ) → after (text "order=big\n") (text "order=little\n" ++ rest) ≡ None
 unfolding after
 other_order rest = refl
 
@@ -209,9 +208,9 @@ line_order bs v rest e =
   where
     go : (a b : Option (List ℕ)) → after (text "order=big\n") bs ≡ a → after (text "order=little\n") bs ≡ b → first_of a b ≡ good v rest
         → (bs ≡ line (text "order=") (order_word (order_of v)) ++ rest) × (code_of (order_of v) ≡ v)
-    go (some l) b p q r = order_was Big bs rest v (good_value r) (after_is (text "order=big\n") bs l p ∙ ap (λ x. text "order=big\n" ++ x) (good_rest r))
-    go none (some l) p q r = order_was Little bs rest v (good_value r) (after_is (text "order=little\n") bs l q ∙ ap (λ x. text "order=little\n" ++ x) (good_rest r))
-    go none none p q r = absurd (not_good refl r)
+    go (Some l) b p q r = order_was Big bs rest v (good_value r) (after_is (text "order=big\n") bs l p ∙ ap (λ x. text "order=big\n" ++ x) (good_rest r))
+    go None (Some l) p q r = order_was Little bs rest v (good_value r) (after_is (text "order=little\n") bs l q ∙ ap (λ x. text "order=little\n" ++ x) (good_rest r))
+    go None None p q r = absurd (not_good refl r)
 
 below_2 : (v : ℕ) → v < 2 → code_of (order_of v) ≡ v
 unfolding code_of order_of
@@ -368,7 +367,7 @@ header_back s o t rest h =
     ap header_of (header_read s o t rest h)
     ∙ ap (λ x. record { sides = s; order = x; settings = t; body = rest }) (order_code o)
 
-pub no_bad_line : (s : Sides) (o : Order) (t : Settings) (rest : List ℕ) → Short s t → bad_line (header_written s o t ++ rest) ≡ Nowhere
+pub no_bad_line : (s : Sides) (o : Order) (t : Settings) (rest : List ℕ) → Short s t → bad_line (header_written s o t ++ rest) ≡ None
 unfolding bad_line wrong_line
 no_bad_line s o t rest h = ap wrong_line (header_read s o t rest h)
 
@@ -376,7 +375,7 @@ no_bad_line s o t rest h = ap wrong_line (header_read s o t rest h)
 abbrev rewritten : Header → List ℕ
 rewritten h = header_written h.sides h.order h.settings ++ h.body
 
-was : (bs : List ℕ) (x : Lines) → Told forms bs x → wrong_line x ≡ Nowhere → rewritten (header_of x) ≡ bs
+was : (bs : List ℕ) (x : Lines) → Told forms bs x → wrong_line x ≡ None → rewritten (header_of x) ≡ bs
 unfolding wrong_line header_of forms numbered ordered
 was bs (wrong k) t e = absurd (never e refl)
 was bs (right (a ∷ (b ∷ (c ∷ (d ∷ (e ∷ (f ∷ (g ∷ []))))))) rest) t n = header_spelt a b c d e f g rest ∙ sym t.0
@@ -389,6 +388,6 @@ was bs (right (a ∷ (b ∷ (c ∷ (d ∷ (e ∷ []))))) rest) t n = absurd t.1.
 was bs (right (a ∷ (b ∷ (c ∷ (d ∷ (e ∷ (f ∷ [])))))) rest) t n = absurd t.1.1.1.1.1.1.1
 was bs (right (a ∷ (b ∷ (c ∷ (d ∷ (e ∷ (f ∷ (g ∷ (x ∷ vs)))))))) rest) t n = absurd t.1.1.1.1.1.1.1.1
 
-pub back_header : (bs : List ℕ) → bad_line bs ≡ Nowhere → rewritten (header bs) ≡ bs
+pub back_header : (bs : List ℕ) → bad_line bs ≡ None → rewritten (header bs) ≡ bs
 unfolding bad_line header
 back_header bs e = was bs (read_lines 1 lines bs) (subst (λ ls. Told forms bs (read_lines 1 ls bs)) (sym lines_are) (told 1 forms bs)) e

@@ -5,7 +5,7 @@ use mathlib.Core.List.{List, [], ◌∷◌, ◌++◌, append_assoc}
 use Prim.Native.Nat.{ℕ, ◌^◌, ◌<◌}
 use Rattle.laws.specs.Text.{text}
 use Rattle.method.specs.declared.Sides.{Sides}
-use Rattle.method.specs.declared.Found.TheVariants.{Nowhere}
+use Rattle.std.specs.Prelude.{None}
 use Rattle.method.specs.Cast.{between}
 use Rattle.method.specs.Numbers.{decimal, is_digit}
 use Rattle.method.specs.Form.{line, Lines, wrong, right, read_lines}
@@ -67,7 +67,7 @@ pub old_header_back : (s : Sides) (u : ℕ) (rest : List ℕ) → OldShort s u
 unfolding old_header old_header_of
 old_header_back s u rest h = ap old_header_of (header_read s u rest h)
 
-pub no_old_bad_line : (s : Sides) (u : ℕ) (rest : List ℕ) → OldShort s u → old_bad_line (old_header_written s u ++ rest) ≡ Nowhere
+pub no_old_bad_line : (s : Sides) (u : ℕ) (rest : List ℕ) → OldShort s u → old_bad_line (old_header_written s u ++ rest) ≡ None
 unfolding old_bad_line old_wrong_line
 no_old_bad_line s u rest h = ap old_wrong_line (header_read s u rest h)
 
@@ -75,7 +75,7 @@ no_old_bad_line s u rest h = ap old_wrong_line (header_read s u rest h)
 abbrev rewritten : OldHeader → List ℕ
 rewritten h = old_header_written h.sides h.unit ++ h.body
 
-was : (bs : List ℕ) (x : Lines) → Told parts bs x → old_wrong_line x ≡ Nowhere → rewritten (old_header_of x) ≡ bs
+was : (bs : List ℕ) (x : Lines) → Told parts bs x → old_wrong_line x ≡ None → rewritten (old_header_of x) ≡ bs
 unfolding old_wrong_line old_header_of parts part_to
 was bs (wrong k) t e = absurd (never e refl)
 was bs (right (a ∷ (b ∷ (c ∷ (d ∷ [])))) rest) t n = header_spelt a b c d rest ∙ sym t.0
@@ -85,6 +85,6 @@ was bs (right (a ∷ (b ∷ [])) rest) t n = absurd t.1.1.1
 was bs (right (a ∷ (b ∷ (c ∷ []))) rest) t n = absurd t.1.1.1.1
 was bs (right (a ∷ (b ∷ (c ∷ (d ∷ (x ∷ vs))))) rest) t n = absurd t.1.1.1.1.1
 
-pub back_old_header : (bs : List ℕ) → old_bad_line bs ≡ Nowhere → rewritten (old_header bs) ≡ bs
+pub back_old_header : (bs : List ℕ) → old_bad_line bs ≡ None → rewritten (old_header bs) ≡ bs
 unfolding old_bad_line old_header
 back_old_header bs e = was bs (read_lines 1 old_parts bs) (subst (λ ls. Told parts bs (read_lines 1 ls bs)) (sym parts_are) (told 1 parts bs)) e

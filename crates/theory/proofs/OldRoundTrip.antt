@@ -12,7 +12,7 @@ use lib.IntN.{ℤ, pos}
 use borrow.Author.Tests.{le-leb, eq-eqb, le-ltb}
 use Rattle.method.specs.declared.Sides.{Sides}
 use Rattle.method.specs.declared.Settings.{Settings}
-use Rattle.method.specs.declared.Found.TheVariants.{Nowhere}
+use Rattle.std.specs.Prelude.{None}
 use Rattle.method.specs.Cast.{Cast, cells, sides_fit, settings_fit, field, first, label_fault, value_fault}
 use Rattle.method.specs.Form.{most_first}
 use Rattle.method.specs.Answers.{fault, Verdict, passed, refused, refusal, done}
@@ -48,7 +48,7 @@ short s u e f =
     record { nx = omega arith; ny = omega arith; nz = omega arith; unit = omega arith }
 
 -- ---- a search that found nothing, and one that finds nothing
-pub nowhere_all : (test : ℕ → Bool) (n : ℕ) → first (λ c. not (test c)) n ≡ Nowhere → (c : ℕ) → c < n → test c ≡ true
+pub nowhere_all : (test : ℕ → Bool) (n : ℕ) → first (λ c. not (test c)) n ≡ None → (c : ℕ) → c < n → test c ≡ true
 nowhere_all test n e c l = go (search_first (λ c. not (test c)) n)
   where
     twice : (b : Bool) → T (not (not b)) → b ≡ true
@@ -59,10 +59,10 @@ nowhere_all test n e c l = go (search_first (λ c. not (test c)) n)
     go (found d h r) = absurd (never e h)
     go (none h r) = twice (test c) (r c l)
 
-pub all_nowhere : (test : ℕ → Bool) (n : ℕ) → ((c : ℕ) → c < n → test c ≡ true) → first (λ c. not (test c)) n ≡ Nowhere
+pub all_nowhere : (test : ℕ → Bool) (n : ℕ) → ((c : ℕ) → c < n → test c ≡ true) → first (λ c. not (test c)) n ≡ None
 all_nowhere test n h = go (search_first (λ c. not (test c)) n)
   where
-    go : Search (λ c. not (test c)) n → first (λ c. not (test c)) n ≡ Nowhere
+    go : Search (λ c. not (test c)) n → first (λ c. not (test c)) n ≡ None
     go (found d e r) = absurd (subst (λ b. T (not b)) (h d r.below) r.here)
     go (none e r) = e
 
@@ -83,12 +83,12 @@ body_back h e u b =
 
 -- ---- READ, THEN WRITTEN with its unit: the same bytes
 record Sound (r : OldReading) : Type 0 where
-  pub line : old_bad_line r.bytes ≡ Nowhere
+  pub line : old_bad_line r.bytes ≡ None
   pub sides : sides_fit (old_named r).sides ≡ true
   pub long : length (old_named r).body ≡ 3 * cells (old_named r).sides
   pub unit : unit_fits (old_named r).unit ≡ true
-  pub label_fault_lem : label_fault (old_cast_in (old_named r)) ≡ Nowhere
-  pub value_fault_lem : value_fault (old_cast_in (old_named r)) ≡ Nowhere
+  pub label_fault_lem : label_fault (old_cast_in (old_named r)) ≡ None
+  pub value_fault_lem : value_fault (old_cast_in (old_named r)) ≡ None
 
 reader_fine : (r : OldReading) → OldRead0 r → Sound r
 unfolding old_reader_checks old_line_check old_side_check old_body_check old_room_check old_content_checks
@@ -128,8 +128,8 @@ record Fine (k : Cast) (u : ℕ) : Type 0 where
   pub unit : unit_fits u ≡ true
   pub labels : length k.labels ≡ cells k.sides
   pub values : length k.values ≡ cells k.sides
-  pub label_fault_lem : label_fault k ≡ Nowhere
-  pub value_fault_lem : value_fault k ≡ Nowhere
+  pub label_fault_lem : label_fault k ≡ None
+  pub value_fault_lem : value_fault k ≡ None
   pub expressed : (c : ℕ) → c < cells k.sides → expressible u (field k.values c) ≡ true
 
 writer_fine : (w : OldWriting) → OldWritten0 w → Fine w.cast w.unit
@@ -170,7 +170,7 @@ module _ (k : Cast) (u : ℕ) (z : Fine k u) where
   unfolding named_back
   header_is = ap old_header bytes_are ∙ old_header_back k.sides u body (short k.sides u z.sides z.unit)
 
-  line_is : old_bad_line (old_written k u) ≡ Nowhere
+  line_is : old_bad_line (old_written k u) ≡ None
   line_is = ap old_bad_line bytes_are ∙ no_old_bad_line k.sides u body (short k.sides u z.sides z.unit)
 
   length_row : length row ≡ 2 * cells k.sides
@@ -304,7 +304,7 @@ length_values : (h : OldHeader) → length (old_values_in h) ≡ cells h.sides
 unfolding old_values_in
 length_values h = length_tab (cells h.sides) (λ c. old_value_read h.unit (take 2 (drop (2 * c) h.body)))
 
-all_expressible : (h : OldHeader) → length h.body ≡ 3 * cells h.sides → 1 ≤ h.unit → Bytes h.body → not_expressible h.unit (old_cast_in h) ≡ Nowhere
+all_expressible : (h : OldHeader) → length h.body ≡ 3 * cells h.sides → 1 ≤ h.unit → Bytes h.body → not_expressible h.unit (old_cast_in h) ≡ None
 unfolding not_expressible old_cast_in old_values_in old_value_read
 all_expressible h e u b =
     let n = cells h.sides in

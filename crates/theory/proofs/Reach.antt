@@ -15,8 +15,7 @@ use Rattle.laws.proofs.Bools.{and_l, and_r, and_in, is_true, so}
 use Rattle.laws.proofs.Naturals.{le_or_lt}
 use Rattle.laws.proofs.Lists.{length_tab, get_or_tab, any_some, any_in, any_cong}
 use Rattle.method.specs.declared.Sides.{Sides}
-use Rattle.method.specs.declared.Found.{Found}
-use Rattle.method.specs.declared.Found.TheVariants.{Nowhere, At}
+use Rattle.std.specs.Prelude.{Option, None, Some}
 use Rattle.method.specs.Cast.{cells, label_at, is_air, is_opening, no_wall, around}
 use Rattle.method.specs.Walks.{is_at, nearer, walks, walk}
 use Rattle.theory.specs.Walks.{Beside, Walk, last, step}
@@ -55,102 +54,102 @@ unfolding label_at
 in_box_lem n ls e i h = ⊎_elim (λ o. absurd (omega (arith, h, get_or-eq_default ls 2 {n = i} (omega arith)))) (λ l. l) (le_or_lt n i)
 
 -- ---- what is found, by cases
-pub found_cases {ℓ} : {X : Type ℓ} (f : Found) → ((d : ℕ) → f ≡ At d → X) → (f ≡ Nowhere → X) → X
-found_cases Nowhere g h = h refl
-found_cases (At d) g h = g d refl
+pub found_cases {ℓ} : {X : Type ℓ} (f : Option ℕ) → ((d : ℕ) → f ≡ Some d → X) → (f ≡ None → X) → X
+found_cases None g h = h refl
+found_cases (Some d) g h = g d refl
 
-pub never : {f : Found} {d : ℕ} → f ≡ Nowhere → f ≡ At d → ⊥
+pub never : {f : Option ℕ} {d : ℕ} → f ≡ None → f ≡ Some d → ⊥
 never p q = let z : ◌≡◌ {A = ℕ} 0 1 = cc in omega arith
 
-pub same_steps : {f : Found} {d e : ℕ} → f ≡ At d → f ≡ At e → d ≡ e
+pub same_steps : {f : Option ℕ} {d e : ℕ} → f ≡ Some d → f ≡ Some e → d ≡ e
 same_steps p q = cc
 
-is_at_lem : (f : Found) → T (is_at f) → (d : ℕ) × (f ≡ At d)
+is_at_lem : (f : Option ℕ) → T (is_at f) → (d : ℕ) × (f ≡ Some d)
 unfolding is_at
-is_at_lem Nowhere t = absurd t
-is_at_lem (At d) t = (d, refl)
+is_at_lem None t = absurd t
+is_at_lem (Some d) t = (d, refl)
 
-at_nearer : (b : Bool) (k : ℕ) (f : Found) → is_at (nearer b k f) ≡ (is_at f || b)
+at_nearer : (b : Bool) (k : ℕ) (f : Option ℕ) → is_at (nearer b k f) ≡ (is_at f || b)
 unfolding is_at nearer
-at_nearer b k (At d) = refl
-at_nearer true k Nowhere = refl
-at_nearer false k Nowhere = refl
+at_nearer b k (Some d) = refl
+at_nearer true k None = refl
+at_nearer false k None = refl
 
-at_is : {f : Found} {d : ℕ} → f ≡ At d → T (is_at f)
+at_is : {f : Option ℕ} {d : ℕ} → f ≡ Some d → T (is_at f)
 unfolding is_at
 at_is e = rw e tt
 
 module _ (s : Sides) (ls : List ℕ) where
   -- what is known of cell i after k steps
-  unfoldable pub known : ℕ → ℕ → Found
-  known k i = get_or (walks s ls k) i Nowhere
+  unfoldable pub known : ℕ → ℕ → Option ℕ
+  known k i = get_or (walks s ls k) i None
 
   length_walks : (k : ℕ) → length (walks s ls k) ≡ cells s
   unfolding walks
-  length_walks zero = length_tab (cells s) (λ c. cond (is_opening ls c) (At 0) Nowhere)
+  length_walks zero = length_tab (cells s) (λ c. cond (is_opening ls c) (Some 0) None)
   length_walks (suc k) =
-      length_tab (cells s) (λ c. nearer (is_air ls c && any (λ j. is_at (get_or (walks s ls k) j Nowhere)) (around s c)) k (get_or (walks s ls k) c Nowhere))
+      length_tab (cells s) (λ c. nearer (is_air ls c && any (λ j. is_at (get_or (walks s ls k) j None)) (around s c)) k (get_or (walks s ls k) c None))
 
-  known_out : (k i : ℕ) → cells s ≤ i → known k i ≡ Nowhere
+  known_out : (k i : ℕ) → cells s ≤ i → known k i ≡ None
   unfolding known
-  known_out k i h = get_or-eq_default (walks s ls k) Nowhere (omega (arith, length_walks k))
+  known_out k i h = get_or-eq_default (walks s ls k) None (omega (arith, length_walks k))
 
-  known_zero : (i : ℕ) → i < cells s → known 0 i ≡ cond (is_opening ls i) (At 0) Nowhere
+  known_zero : (i : ℕ) → i < cells s → known 0 i ≡ cond (is_opening ls i) (Some 0) None
   unfolding known walks
-  known_zero i l = get_or_tab (cells s) (λ c. cond (is_opening ls c) (At 0) Nowhere) i Nowhere l
+  known_zero i l = get_or_tab (cells s) (λ c. cond (is_opening ls c) (Some 0) None) i None l
 
   known_suc : (k i : ℕ) → i < cells s → known (suc k) i ≡ nearer (is_air ls i && any (λ j. is_at (known k j)) (around s i)) k (known k i)
   unfolding known walks
   known_suc k i l =
-      get_or_tab (cells s) (λ c. nearer (is_air ls c && any (λ j. is_at (get_or (walks s ls k) j Nowhere)) (around s c)) k (get_or (walks s ls k) c Nowhere)) i Nowhere l
+      get_or_tab (cells s) (λ c. nearer (is_air ls c && any (λ j. is_at (get_or (walks s ls k) j None)) (around s c)) k (get_or (walks s ls k) c None)) i None l
 
   -- ---- how a cell came to be known
-  at_start : (i d : ℕ) → known 0 i ≡ At d → (d ≡ 0) × (label_at ls i ≡ 1)
+  at_start : (i d : ℕ) → known 0 i ≡ Some d → (d ≡ 0) × (label_at ls i ≡ 1)
   at_start i d e = ⊎_elim (λ o. absurd (never (known_out 0 i o) e)) (λ l. go (is_opening ls i) (λ t. test_opening ls i t) (sym (known_zero i l) ∙ e)) (le_or_lt (cells s) i)
     where
-      go : (b : Bool) → (T b → label_at ls i ≡ 1) → cond b (At 0) Nowhere ≡ At d → (d ≡ 0) × (label_at ls i ≡ 1)
+      go : (b : Bool) → (T b → label_at ls i ≡ 1) → cond b (Some 0) None ≡ Some d → (d ≡ 0) × (label_at ls i ≡ 1)
       go true f q = (same_steps q refl, f tt)
       go false f q = absurd (never refl q)
 
   Next : ℕ → ℕ → Type 0
   Next k i = (label_at ls i ≡ 0) × ((j : ℕ) × Beside s i j × T (is_at (known k j)))
 
-  came : (k i d : ℕ) → known (suc k) i ≡ At d → (known k i ≡ At d) ⊎ ((d ≡ suc k) × Next k i)
+  came : (k i d : ℕ) → known (suc k) i ≡ Some d → (known k i ≡ Some d) ⊎ ((d ≡ suc k) × Next k i)
   unfolding nearer Next
   came k i d e = ⊎_elim
       (λ o. absurd (never (known_out (suc k) i o) e))
       (λ l. go (is_air ls i && any (λ j. is_at (known k j)) (around s i)) (known k i) (λ t. t) refl (sym (known_suc k i l) ∙ e))
       (le_or_lt (cells s) i)
     where
-      go : (b : Bool) (f : Found) → (T b → T (is_air ls i && any (λ j. is_at (known k j)) (around s i))) → known k i ≡ f → nearer b k f ≡ At d
-          → (known k i ≡ At d) ⊎ ((d ≡ suc k) × ((label_at ls i ≡ 0) × ((j : ℕ) × Beside s i j × T (is_at (known k j)))))
-      go b (At c) g q r = inl (q ∙ r)
-      go true Nowhere g q r = inr (
-        sym (same_steps {f = At (suc k)} refl r),
+      go : (b : Bool) (f : Option ℕ) → (T b → T (is_air ls i && any (λ j. is_at (known k j)) (around s i))) → known k i ≡ f → nearer b k f ≡ Some d
+          → (known k i ≡ Some d) ⊎ ((d ≡ suc k) × ((label_at ls i ≡ 0) × ((j : ℕ) × Beside s i j × T (is_at (known k j)))))
+      go b (Some c) g q r = inl (q ∙ r)
+      go true None g q r = inr (
+        sym (same_steps {f = Some (suc k)} refl r),
         (
           test_air ls i (and_l (is_air ls i) (any (λ j. is_at (known k j)) (around s i)) (g tt)),
           any_some (λ j. is_at (known k j)) (around s i) (and_r (is_air ls i) (any (λ j. is_at (known k j)) (around s i)) (g tt)),
         ),
       )
-      go false Nowhere g q r = absurd (never refl r)
+      go false None g q r = absurd (never refl r)
 
   -- no number is above the number of steps looked at; what is known is no wall
-  pub bounded : (k i d : ℕ) → known k i ≡ At d → d ≤ k
+  pub bounded : (k i d : ℕ) → known k i ≡ Some d → d ≤ k
   bounded zero i d e = omega (arith, (at_start i d e).0)
   bounded (suc k) i d e = ⊎_elim (λ q. omega (arith, bounded k i d q)) (λ q. omega (arith, q.0)) (came k i d e)
 
-  clear : (k i d : ℕ) → known k i ≡ At d → (label_at ls i ≡ 1) ⊎ (label_at ls i ≡ 0)
+  clear : (k i d : ℕ) → known k i ≡ Some d → (label_at ls i ≡ 1) ⊎ (label_at ls i ≡ 0)
   unfolding Next
   clear zero i d e = inl (at_start i d e).1
   clear (suc k) i d e = ⊎_elim (λ q. clear k i d q) (λ q. inr q.1.0) (came k i d e)
 
   -- ---- a known air cell has a walk
-  pub sound : (k i d : ℕ) → known k i ≡ At d → label_at ls i ≡ 0 → (e : ℕ) × (e ≤ d) × Walk s ls i e
+  pub sound : (k i d : ℕ) → known k i ≡ Some d → label_at ls i ≡ 0 → (e : ℕ) × (e ≤ d) × Walk s ls i e
   unfolding Next
   sound zero i d e a = absurd (omega (arith, a, (at_start i d e).1))
   sound (suc k) i d e a = ⊎_elim (λ q. sound k i d q a) (λ q. from q.0 q.1.1 (λ j c h o. sound k j c h o)) (came k i d e)
     where
-      from : d ≡ suc k → (j : ℕ) × Beside s i j × T (is_at (known k j)) → ((j c : ℕ) → known k j ≡ At c → label_at ls j ≡ 0 → (e : ℕ) × (e ≤ c) × Walk s ls j e)
+      from : d ≡ suc k → (j : ℕ) × Beside s i j × T (is_at (known k j)) → ((j c : ℕ) → known k j ≡ Some c → label_at ls j ≡ 0 → (e : ℕ) × (e ≤ c) × Walk s ls j e)
           → (e : ℕ) × (e ≤ d) × Walk s ls i e
       from q r rec =
           let j = r.0 in
@@ -161,18 +160,18 @@ module _ (s : Sides) (ls : List ℕ) where
           (clear k j c.0 c.1)
 
   -- ---- what is known stays known
-  stays : (k i d : ℕ) → known k i ≡ At d → known (suc k) i ≡ At d
+  stays : (k i d : ℕ) → known k i ≡ Some d → known (suc k) i ≡ Some d
   unfolding nearer
   stays k i d e = ⊎_elim
       (λ o. absurd (never (known_out k i o) e))
       (λ l. known_suc k i l ∙ ap (λ f. nearer (is_air ls i && any (λ j. is_at (known k j)) (around s i)) k f) e)
       (le_or_lt (cells s) i)
 
-  stays_add : (m k i d : ℕ) → known k i ≡ At d → known (m + k) i ≡ At d
+  stays_add : (m k i d : ℕ) → known k i ≡ Some d → known (m + k) i ≡ Some d
   stays_add zero k i d e = ap (λ x. known x i) (zero-add k) ∙ e
   stays_add (suc m) k i d e = ap (λ x. known x i) (suc-add m k) ∙ stays (m + k) i d (stays_add m k i d e)
 
-  pub later : (k m i d : ℕ) → k ≤ m → known k i ≡ At d → known m i ≡ At d
+  pub later : (k m i d : ℕ) → k ≤ m → known k i ≡ Some d → known m i ≡ Some d
   later k m i d h e = ap (λ x. known x i) whole ∙ stays_add (m - k) k i d e
     where
       whole : m ≡ m - k + k
@@ -180,7 +179,7 @@ module _ (s : Sides) (ls : List ℕ) where
 
   -- ---- a cell with a walk is known
   module _ (sized : length ls ≡ cells s) where
-    reached : (k i j : ℕ) → label_at ls i ≡ 0 → Beside s i j → T (is_at (known k j)) → (d : ℕ) × (d ≤ suc k) × (known (suc k) i ≡ At d)
+    reached : (k i j : ℕ) → label_at ls i ≡ 0 → Beside s i j → T (is_at (known k j)) → (d : ℕ) × (d ≤ suc k) × (known (suc k) i ≡ Some d)
     unfolding nearer
     reached k i j a b t = found_cases (known k i)
         (λ d e. (d, omega (arith, bounded k i d e), stays k i d e))
@@ -190,8 +189,8 @@ module _ (s : Sides) (ls : List ℕ) where
         near = is_true (is_air ls i && any (λ j. is_at (known k j)) (around s i))
             (and_in (is_air ls i) (any (λ j. is_at (known k j)) (around s i)) (air_test ls i a) (any_in (λ j. is_at (known k j)) (around s i) j b t))
 
-    pub complete : {i e : ℕ} → Walk s ls i e → (d : ℕ) × (d ≤ e) × (known e i ≡ At d)
-    complete (last {i = i} {j = j} a b o) = reached 0 i j a b (at_is (known_zero j (in_box_lem (cells s) ls sized j (omega arith)) ∙ ap (λ x. cond x (At 0) Nowhere) (is_true (is_opening ls j) (opening_test ls j o))))
+    pub complete : {i e : ℕ} → Walk s ls i e → (d : ℕ) × (d ≤ e) × (known e i ≡ Some d)
+    complete (last {i = i} {j = j} a b o) = reached 0 i j a b (at_is (known_zero j (in_box_lem (cells s) ls sized j (omega arith)) ∙ ap (λ x. cond x (Some 0) None) (is_true (is_opening ls j) (opening_test ls j o))))
     complete (step {i = i} {j = j} {k = k} a b w) = reached k i j a b (at_is (complete w).2)
 
   -- ---- as many steps as there are cells are enough
@@ -256,7 +255,7 @@ module _ (s : Sides) (ls : List ℕ) where
 -- ---- what the meaning's walk says of an air cell: the least number of face steps through air to an opening, or that
 -- there is no walk
 module _ (s : Sides) (ls : List ℕ) (sized : length ls ≡ cells s) where
-  pub least_walk : (i d : ℕ) → label_at ls i ≡ 0 → get_or (walk s ls) i Nowhere ≡ At d → Walk s ls i d × ((e : ℕ) → Walk s ls i e → d ≤ e)
+  pub least_walk : (i d : ℕ) → label_at ls i ≡ 0 → get_or (walk s ls) i None ≡ Some d → Walk s ls i d × ((e : ℕ) → Walk s ls i e → d ≤ e)
   unfolding walk known
   least_walk i d a e = (exact (sound s ls (cells s) i d e a), least)
     where
@@ -269,9 +268,9 @@ module _ (s : Sides) (ls : List ℕ) (sized : length ls ≡ cells s) where
       exact : (h : ℕ) × (h ≤ d) × Walk s ls i h → Walk s ls i d
       exact r = subst (λ x. Walk s ls i x) (omega (arith, r.1, least r.0 r.2)) r.2
 
-  pub no_walk : (i : ℕ) → label_at ls i ≡ 0 → get_or (walk s ls) i Nowhere ≡ Nowhere → (e : ℕ) → Walk s ls i e → ⊥
+  pub no_walk : (i : ℕ) → label_at ls i ≡ 0 → get_or (walk s ls) i None ≡ None → (e : ℕ) → Walk s ls i e → ⊥
   unfolding walk known near
   no_walk i a e h w =
       let c = complete s ls sized w in
-      let r = is_at_lem (get_or (walks s ls (cells s)) i Nowhere) (enough s ls h i (in_box_lem (cells s) ls sized i (omega arith)) (at_is c.2)) in
+      let r = is_at_lem (get_or (walks s ls (cells s)) i None) (enough s ls h i (in_box_lem (cells s) ls sized i (omega arith)) (at_is c.2)) in
       never e r.1

@@ -14,7 +14,7 @@ use borrow.Author.Tests.{le-leb, eq-eqb, le-ltb}
 use Rattle.method.specs.declared.Sides.{Sides}
 use Rattle.method.specs.declared.Settings.{Settings}
 use Rattle.method.specs.declared.Order.{Order}
-use Rattle.method.specs.declared.Found.TheVariants.{Nowhere}
+use Rattle.std.specs.Prelude.{None}
 use Rattle.method.specs.Cast.{Cast, cells, between, sides_fit, settings_fit, label_at, field, widest, bad_value, label_fault, value_fault}
 use Rattle.method.specs.Form.{Header, header, bad_line, value_read, value_written, labels_in, values_in, cast_in, header_written, written}
 use Rattle.method.specs.Answers.{fault, Verdict, passed, refused, refusal, done}
@@ -75,8 +75,8 @@ record Fine (k : Cast) (t : Settings) : Type 0 where
   pub settings : settings_fit t ≡ true
   pub labels : length k.labels ≡ cells k.sides
   pub values : length k.values ≡ cells k.sides
-  pub label_fault_lem : label_fault k ≡ Nowhere
-  pub value_fault_lem : value_fault k ≡ Nowhere
+  pub label_fault_lem : label_fault k ≡ None
+  pub value_fault_lem : value_fault k ≡ None
 
 writer_fine : (w : Writing) → Written0 w → Fine w.cast w.settings
 unfolding writer_checks writer_lengths_fit
@@ -103,7 +103,7 @@ widest_most (suc zero) = omega arith
 widest_most (suc (suc l)) = omega arith
 
 -- no value is out of range
-value_in_lem : (s : Sides) (ls : List ℕ) (vs : List ℤ) → bad_value s ls vs ≡ Nowhere → (c : ℕ) → c < cells s → nat_abs (field vs c) ≤ 1000000
+value_in_lem : (s : Sides) (ls : List ℕ) (vs : List ℤ) → bad_value s ls vs ≡ None → (c : ℕ) → c < cells s → nat_abs (field vs c) ≤ 1000000
 unfolding bad_value
 value_in_lem s ls vs e c l = go (search_first (λ c. ltb (widest (label_at ls c)) (nat_abs (field vs c))) (cells s))
   where
@@ -141,7 +141,7 @@ module _ (k : Cast) (o : Order) (t : Settings) (z : Fine k t) where
   unfolding named_back
   header_is = ap header bytes_are ∙ header_back k.sides o t body (short k.sides t z.sides z.settings)
 
-  line_is : bad_line (written k o t) ≡ Nowhere
+  line_is : bad_line (written k o t) ≡ None
   line_is = ap bad_line bytes_are ∙ no_bad_line k.sides o t body (short k.sides t z.sides z.settings)
 
   length_body : length body ≡ 5 * cells k.sides

@@ -5,15 +5,14 @@ use mathlib.Core.Bool.{Bool, true, false, not}
 use mathlib.Core.List.{List, [], ◌∷◌}
 use Prim.Native.Nat.{ℕ, ◌≤◌}
 use native.Mathlib.Omega.{arith}
-use Rattle.method.specs.declared.Found.{Found}
-use Rattle.method.specs.declared.Found.TheVariants.{Nowhere, At}
+use Rattle.std.specs.Prelude.{Option, None, Some}
 use Rattle.method.specs.Answers.{Check, fault, Verdict, passed, refused, verdict}
 use Rattle.theory.proofs.Reach.{never}
 
 -- every check finds nothing
 abbrev pub AllPass : {A : Type 0} → List (Check A) → A → Type 0
 AllPass [] a = Unit {0}
-AllPass (c ∷ cs) a = (c.fails a ≡ Nowhere) × AllPass cs a
+AllPass (c ∷ cs) a = (c.fails a ≡ None) × AllPass cs a
 
 -- every check's number is from lo to hi
 abbrev pub Numbered : {A : Type 0} → ℕ → ℕ → List (Check A) → Type 0
@@ -30,21 +29,21 @@ unfolding verdict
 judge [] a = fine refl tt
 judge {A} (c ∷ cs) a = go (c.fails a) refl (judge cs a)
   where
-    after : Found → Verdict
-    after f = elim f [ At place ↦ refused c.number place | Nowhere ↦ verdict cs a ]
+    after : Option ℕ → Verdict
+    after f = elim f [ Some place ↦ refused c.number place | None ↦ verdict cs a ]
 
-    go : (f : Found) → c.fails a ≡ f → Judged cs a → Judged (c ∷ cs) a
-    go (At place) e r = faulty c.number place (ap after e) (λ lo hi n. n.0)
-    go Nowhere e (fine v p) = fine (ap after e ∙ v) (e, p)
-    go Nowhere e (faulty num place v f) = faulty num place (ap after e ∙ v) (λ lo hi n. f lo hi n.1)
+    go : (f : Option ℕ) → c.fails a ≡ f → Judged cs a → Judged (c ∷ cs) a
+    go (Some place) e r = faulty c.number place (ap after e) (λ lo hi n. n.0)
+    go None e (fine v p) = fine (ap after e ∙ v) (e, p)
+    go None e (faulty num place v f) = faulty num place (ap after e ∙ v) (λ lo hi n. f lo hi n.1)
 
 -- a check for a fault found nothing: there is none
-pub no_fault : (b : Bool) → fault (not b) ≡ Nowhere → b ≡ true
+pub no_fault : (b : Bool) → fault (not b) ≡ None → b ≡ true
 unfolding fault
 no_fault true e = refl
 no_fault false e = absurd (never e refl)
 
-pub no_fault' : (b : Bool) → fault b ≡ Nowhere → b ≡ false
+pub no_fault' : (b : Bool) → fault b ≡ None → b ≡ false
 unfolding fault
 no_fault' true e = absurd (never e refl)
 no_fault' false e = refl
@@ -65,35 +64,35 @@ unfolding verdict
 pass_all [] a p = refl
 pass_all {A} (c ∷ cs) a p = ap after p.0 ∙ pass_all cs a p.1
   where
-    after : Found → Verdict
-    after f = elim f [ At place ↦ refused c.number place | Nowhere ↦ verdict cs a ]
+    after : Option ℕ → Verdict
+    after f = elim f [ Some place ↦ refused c.number place | None ↦ verdict cs a ]
 
-pub fault_no : (b : Bool) → b ≡ true → fault (not b) ≡ Nowhere
+pub fault_no : (b : Bool) → b ≡ true → fault (not b) ≡ None
 unfolding fault
 fault_no b e = rw e
 
-pub fault_yes : (b : Bool) → b ≡ false → fault (not b) ≡ At 0
+pub fault_yes : (b : Bool) → b ≡ false → fault (not b) ≡ Some 0
 unfolding fault
 fault_yes b e = rw e
 
 -- ---- one check more
-abbrev pub after : ℕ → Found → Verdict → Verdict
-after k (At p) v = refused k p
-after k Nowhere v = v
+abbrev pub after : ℕ → Option ℕ → Verdict → Verdict
+after k (Some p) v = refused k p
+after k None v = v
 
 module _ {A : Type 0} where
   pub verdict_cons : (c : Check A) (cs : List (Check A)) (a : A) → verdict (c ∷ cs) a ≡ after c.number (c.fails a) (verdict cs a)
   unfolding verdict
   verdict_cons c cs a = go (c.fails a)
     where
-      go : (f : Found) → ◌≡◌ {A = Verdict} (elim f [ At place ↦ refused c.number place | Nowhere ↦ verdict cs a ]) (after c.number f (verdict cs a))
-      go (At p) = refl
-      go Nowhere = refl
+      go : (f : Option ℕ) → ◌≡◌ {A = Verdict} (elim f [ Some place ↦ refused c.number place | None ↦ verdict cs a ]) (after c.number f (verdict cs a))
+      go (Some p) = refl
+      go None = refl
 
-  pub fails_at : (c : Check A) (cs : List (Check A)) (a : A) (p : ℕ) → c.fails a ≡ At p → verdict (c ∷ cs) a ≡ refused c.number p
+  pub fails_at : (c : Check A) (cs : List (Check A)) (a : A) (p : ℕ) → c.fails a ≡ Some p → verdict (c ∷ cs) a ≡ refused c.number p
   fails_at c cs a p e = verdict_cons c cs a ∙ ap (λ f. after c.number f (verdict cs a)) e
 
-  pub passes_on : (c : Check A) (cs : List (Check A)) (a : A) → c.fails a ≡ Nowhere → verdict (c ∷ cs) a ≡ verdict cs a
+  pub passes_on : (c : Check A) (cs : List (Check A)) (a : A) → c.fails a ≡ None → verdict (c ∷ cs) a ≡ verdict cs a
   passes_on c cs a e = verdict_cons c cs a ∙ ap (λ f. after c.number f (verdict cs a)) e
 
   -- what is alike to every check has the same verdict

@@ -10,8 +10,7 @@ use lib.ListN.{length}
 use lib.IntN.{ℤ, pos, nat_abs}
 use borrow.Author.Tests.{eq-eqb}
 use Rattle.laws.proofs.Bools.{and_l, and_r, and_in, so}
-use Rattle.method.specs.declared.Found.{Found}
-use Rattle.method.specs.declared.Found.TheVariants.{Nowhere, At}
+use Rattle.std.specs.Prelude.{Option, None, Some}
 use Rattle.method.specs.Cast.{Cast, cells, label_at, is_air, judged, field, residual, worst, is_worst, worst_cell, worst_value}
 use Rattle.method.specs.declared.Settings.{Settings}
 use Rattle.method.specs.Rounds.{solved, failed, pass, fail, ending}
@@ -32,11 +31,11 @@ module _ (k : Cast) (ps : List ℤ) where
     pub size : nat_abs (worst_value k ps) ≡ worst k ps
     pub before : (c : ℕ) → c < worst_cell k ps → label_at k.labels c ≡ 0 → nat_abs (here c) < worst k ps
 
-  abbrev cell_in : Found → ℕ
-  cell_in f = elim f [ At c ↦ c | Nowhere ↦ 0 ]
+  abbrev cell_in : Option ℕ → ℕ
+  cell_in f = elim f [ Some c ↦ c | None ↦ 0 ]
 
-  abbrev value_in : Found → ℤ
-  value_in f = elim f [ At c ↦ here c | Nowhere ↦ pos 0 ]
+  abbrev value_in : Option ℕ → ℤ
+  value_in f = elim f [ Some c ↦ here c | None ↦ pos 0 ]
 
   -- of a cell that is worst
   worst_air : (c : ℕ) → T (is_worst k ps c) → label_at k.labels c ≡ 0

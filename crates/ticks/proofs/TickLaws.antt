@@ -9,8 +9,7 @@ use lib.Ieee.{Float, nan, inf, fin, up, down, neg, lt, eq}
 use lib.Ieee.Fits.{down_pos}
 use Rattle.laws.specs.Binary64.{+0}
 use Rattle.laws.proofs.Bools.{split}
-use Rattle.method.specs.declared.Tick.{Tick}
-use Rattle.method.specs.declared.Tick.TheVariants.{Whole, Refused}
+use Rattle.std.specs.Prelude.{ℤ, Option, Some, None}
 use Rattle.method.specs.Ticks.{nearest, furthest, signed, kept, tick}
 use Rattle.ticks.specs.TickSize.{size}
 use Rattle.ticks.proofs.TickNear.{no, nearest_low}
@@ -33,21 +32,21 @@ below_is : (n : ℕ) → n < 2 ^ 63 → to_z w64 (of_z w64 (pos 0 -ℤ to_z w64 
 below_is n h = rw (above_is n h, zero_less n) (to_z-of_z (neg_fits n h))
 
 -- ---- what is kept
-pub kept_whole : (s : Bool) (n : ℕ) → n ≤ 2 ^ 41 → Whole (signed s n) ≡ kept s n
+pub kept_whole : (s : Bool) (n : ℕ) → n ≤ 2 ^ 41 → Some (signed s n) ≡ kept s n
 unfolding kept furthest
 kept_whole s n h = simp (le-leb n (2 ^ 41) h)
 
-pub kept_refused : (s : Bool) (n : ℕ) → 2 ^ 41 < n → Refused ≡ kept s n
+pub kept_refused : (s : Bool) (n : ℕ) → 2 ^ 41 < n → None ≡ kept s n
 unfolding kept furthest
 kept_refused s n h = simp (lt-leb n (2 ^ 41) h)
 
-pub above_kept : (s : Bool) (n : ℕ) → s ≡ false → n ≤ 2 ^ 41 → Whole (to_z w64 n) ≡ kept s n
+pub above_kept : (s : Bool) (n : ℕ) → s ≡ false → n ≤ 2 ^ 41 → Some (to_z w64 n) ≡ kept s n
 unfolding signed
-above_kept s n e h = rw e (ap Whole (above_is n (omega arith)) ∙ kept_whole false n h)
+above_kept s n e h = rw e (ap Some (above_is n (omega arith)) ∙ kept_whole false n h)
 
-pub below_kept : (s : Bool) (n : ℕ) → s ≡ true → n ≤ 2 ^ 41 → Whole (to_z w64 (of_z w64 (pos 0 -ℤ to_z w64 n))) ≡ kept s n
+pub below_kept : (s : Bool) (n : ℕ) → s ≡ true → n ≤ 2 ^ 41 → Some (to_z w64 (of_z w64 (pos 0 -ℤ to_z w64 n))) ≡ kept s n
 unfolding signed
-below_kept s n e h = rw e (ap Whole (below_is n (omega arith)) ∙ kept_whole true n h)
+below_kept s n e h = rw e (ap Some (below_is n (omega arith)) ∙ kept_whole true n h)
 
 -- nothing is kept beyond 2 ^ 42, nor at it
 kept_capped : (s : Bool) (n : ℕ) → kept s (min n (2 ^ 42)) ≡ kept s n
@@ -67,7 +66,7 @@ neg_above (inf false) a = a
 neg_above (fin true m e) a = lt-ltb (0 * down e) (m * up e * 1) (let h : 0 < m * up e * 1 + 0 * down e = ltb-true _ _ a in omega arith)
 neg_above (fin false m e) a = never (m * up e) (down e) a
 
-pub low_tick : (x : Float) (n : ℕ) (r : Tick) → lt x +0 ≡ true → n ≡ size (neg x) → r ≡ kept true n → r ≡ tick x
+pub low_tick : (x : Float) (n : ℕ) (r : Option ℤ) → lt x +0 ≡ true → n ≡ size (neg x) → r ≡ kept true n → r ≡ tick x
 unfolding lt neg size tick
 low_tick nan n r a is e = no a
 low_tick (inf true) n r a is e = e ∙ ap (kept true) is ∙ sym (kept_refused true (2 ^ 42) (lit< tt))
@@ -75,7 +74,7 @@ low_tick (inf false) n r a is e = no a
 low_tick (fin true m d) n r a is e = e ∙ ap (kept true) is ∙ kept_capped true (nearest (m * up d) (down d))
 low_tick (fin false m d) n r a is e = never (m * up d) (down d) a
 
-pub high_tick : (x : Float) (n : ℕ) (r : Tick) → lt +0 x ≡ true → n ≡ size x → r ≡ kept false n → r ≡ tick x
+pub high_tick : (x : Float) (n : ℕ) (r : Option ℤ) → lt +0 x ≡ true → n ≡ size x → r ≡ kept false n → r ≡ tick x
 unfolding lt size tick
 high_tick nan n r a is e = no a
 high_tick (inf true) n r a is e = no a
@@ -96,7 +95,7 @@ unfolding signed
 zero_signed true = refl
 zero_signed false = refl
 
-pub zero_tick : (x : Float) → eq x +0 ≡ true → Whole (pos 0) ≡ tick x
+pub zero_tick : (x : Float) → eq x +0 ≡ true → Some (pos 0) ≡ tick x
 unfolding eq tick
 zero_tick nan a = no a
 zero_tick (inf s) a = no a
@@ -104,9 +103,9 @@ zero_tick (fin s m d) a =
     let h : m * up d * 1 ≡ 0 * down d = eqb-true _ _ (and_true _ _ a) in
     let z : m * up d ≡ 0 = omega arith in
     let n : nearest (m * up d) (down d) ≡ 0 = ap (λ (k : ℕ). nearest k (down d)) z ∙ nearest_zero (down d) (down_pos d) in
-    ap Whole (zero_signed s) ∙ kept_whole s 0 (omega arith) ∙ ap (kept s) (sym n)
+    ap Some (zero_signed s) ∙ kept_whole s 0 (omega arith) ∙ ap (kept s) (sym n)
 
-pub nan_tick : (x : Float) → lt x +0 ≡ false → lt +0 x ≡ false → eq x +0 ≡ false → Refused ≡ tick x
+pub nan_tick : (x : Float) → lt x +0 ≡ false → lt +0 x ≡ false → eq x +0 ≡ false → None ≡ tick x
 unfolding lt eq tick
 nan_tick nan a b c = refl
 nan_tick (inf s) a b c = refl

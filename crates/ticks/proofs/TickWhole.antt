@@ -8,8 +8,7 @@ use lib.Ieee.Back.{round_whole}
 use lib.Ieee.Fits.{down_pos}
 use Rattle.laws.specs.Binary64.{ofℤ}
 use Rattle.laws.proofs.Bools.{split}
-use Rattle.method.specs.declared.Tick.{Tick}
-use Rattle.method.specs.declared.Tick.TheVariants.{Whole, Refused}
+use Rattle.std.specs.Prelude.{Option, Some, None, unwrap_or}
 use Rattle.method.specs.Ticks.{nearest, signed, kept, tick, whole_of}
 use Rattle.ticks.proofs.TickNear.{nearest_low}
 use Rattle.ticks.proofs.TickLaws.{kept_whole, kept_refused}
@@ -18,7 +17,7 @@ use Rattle.ticks.proofs.TickLaws.{kept_whole, kept_refused}
 nearest_whole : (n b : ℕ) → 0 < b → nearest (n * b) b ≡ n
 nearest_whole n b h = nearest_low (n * b) b (rw (mul-mod_left n b) (omega arith)) ∙ mul-div_cancel n h
 
-value_tick : (x : Float) (s : Bool) (n : ℕ) → n ≤ 2 ^ 41 → HasValue x s n 1 → tick x ≡ Whole (signed s n)
+value_tick : (x : Float) (s : Bool) (n : ℕ) → n ≤ 2 ^ 41 → HasValue x s n 1 → tick x ≡ Some (signed s n)
 unfolding tick
 value_tick nan s n h v = absurd v
 value_tick (inf t) s n h v = absurd v
@@ -28,7 +27,7 @@ value_tick (fin t m e) s n h v =
     ap (λ (u : Bool). kept u (nearest (m * up e) (down e))) v.0 ∙ ap (kept s) k ∙ sym (kept_whole s n h)
 
 -- THE LAW: a tick that is held as a binary64 is read back
-pub tick_whole : (z : ℤ) → nat_abs z ≤ 2 ^ 41 → tick (ofℤ z) ≡ Whole z
+pub tick_whole : (z : ℤ) → nat_abs z ≤ 2 ^ 41 → tick (ofℤ z) ≡ Some z
 unfolding of_int signed
 tick_whole (pos n) h = value_tick (round binary64 false n 1) false n h (round_whole binary64 false n (omega arith))
 tick_whole (negsuc n) h = value_tick (round binary64 true (suc n) 1) true (suc n) h (round_whole binary64 true (suc n) (omega arith))
@@ -50,19 +49,19 @@ signed_abs true zero = refl
 signed_abs true (suc n) = refl
 signed_abs false n = refl
 
-kept_within : (s : Bool) (n : ℕ) (z : ℤ) → kept s n ≡ Whole z → nat_abs z ≤ 2 ^ 41
+kept_within : (s : Bool) (n : ℕ) (z : ℤ) → kept s n ≡ Some z → nat_abs z ≤ 2 ^ 41
 kept_within s n z e = split (leb n (2 ^ 41))
-    (λ t. let h : n ≤ 2 ^ 41 = leb→le n (2 ^ 41) t in let w : Whole (signed s n) ≡ Whole z = kept_whole s n h ∙ e in let k : signed s n ≡ z = cc in omega (arith, signed_abs s n, ap nat_abs k))
-    (λ t. let w : Refused ≡ Whole z = kept_refused s n (nleb→lt n (2 ^ 41) t) ∙ e in let f : ◌≡◌ {A = ℕ} 0 1 = cc in omega arith)
+    (λ t. let h : n ≤ 2 ^ 41 = leb→le n (2 ^ 41) t in let w : Some (signed s n) ≡ Some z = kept_whole s n h ∙ e in let k : signed s n ≡ z = cc in omega (arith, signed_abs s n, ap nat_abs k))
+    (λ t. let w : None ≡ Some z = kept_refused s n (nleb→lt n (2 ^ 41) t) ∙ e in let f : ◌≡◌ {A = ℕ} 0 1 = cc in omega arith)
 
-pub tick_within : (x : Float) (z : ℤ) → tick x ≡ Whole z → nat_abs z ≤ 2 ^ 41
+pub tick_within : (x : Float) (z : ℤ) → tick x ≡ Some z → nat_abs z ≤ 2 ^ 41
 unfolding tick
 tick_within nan z e = let f : ◌≡◌ {A = ℕ} 0 1 = cc in omega arith
 tick_within (inf s) z e = let f : ◌≡◌ {A = ℕ} 0 1 = cc in omega arith
 tick_within (fin s m d) z e = kept_within s (nearest (m * up d) (down d)) z e
 
 -- a float that was rounded to its tick has that tick
-pub tick_again : (x : Float) (z : ℤ) → tick x ≡ Whole z → tick (ofℤ z) ≡ tick x
+pub tick_again : (x : Float) (z : ℤ) → tick x ≡ Some z → tick (ofℤ z) ≡ tick x
 tick_again x z e = tick_whole z (tick_within x z e) ∙ sym e
 
 -- ---- what `whole_back` asks of what `to_tick` gave
@@ -70,12 +69,12 @@ abs_fits : (z : ℤ) → nat_abs z ≤ 2 ^ 41 → SFits w64 z
 abs_fits (pos n) h = record { sfits = omega arith }
 abs_fits (negsuc n) h = record { sfits = omega arith }
 
-pub held : (x : Float) (t : Tick) (z : ℤ) → t ≡ tick x → t ≡ Whole z → to_z w64 (of_z w64 z) ≡ whole_of (tick x)
+pub back_is : (x : Float) (t : Option ℤ) (r : ℤ) → SFits w64 r → t ≡ tick x → r ≡ unwrap_or t (pos 0) → to_z w64 (of_z w64 r) ≡ whole_of (tick x)
 unfolding whole_of
-held x t z e w = to_z-of_z (abs_fits z (tick_within x z (sym e ∙ w))) ∙ ap whole_of (sym w ∙ e)
+back_is x t r f e q = to_z-of_z f ∙ q ∙ go t ∙ ap whole_of e
+  where
+    go : (u : Option ℤ) → unwrap_or u (pos 0) ≡ whole_of u
+    go (Some z) = refl
+    go None = refl
 
-pub held_none : (x : Float) (t : Tick) → t ≡ tick x → t ≡ Refused → pos 0 ≡ whole_of (tick x)
-unfolding whole_of
-held_none x t e w = ap whole_of (sym w ∙ e)
-
-pub ruleset wholes = (rules, whole_float, held, held_none)
+pub ruleset wholes = (rules, whole_float)

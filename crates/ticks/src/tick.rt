@@ -1,5 +1,5 @@
 // A binary64 to the nearest whole tick, halves to the even tick, and a tick as a binary64.
-ghost use Rattle.std.specs.Prelude.{◌≡◌, ◌+◌, ◌^◌, ◌≤◌, true, false, ◌||◌, if◌then◌else◌, unsigned_abs};
+ghost use Rattle.std.specs.Prelude.{◌≡◌, ◌+◌, ◌^◌, ◌≤◌, true, false, if◌then◌else◌, unsigned_abs};
 ghost use Rattle.std.specs.Float.Ieee.{lt};
 ghost use Rattle.laws.specs.Binary64.{+0, ofℤ};
 ghost use Rattle.method.specs.Ticks.{tie, kept, tick, whole_of};
@@ -15,13 +15,6 @@ fn tie_of(low: u64) -> u64
 {
     let even = low % 2 == 0;
     if even { low } else { low + 1 }
-}
-
-// Whether one of two tests passes.
-fn either(a: bool, b: bool) -> bool
-    ensures { result ≡ (a || b) }
-{
-    if a { true } else { b }
 }
 
 // The next number where the test passes: a choice between two numbers, and no branch.
@@ -42,7 +35,7 @@ fn rounded(y: f64) -> u64
     let q = std::num::truncating_f64_to_u64(y);
     let half = (q as f64) + 0.5;
     let above = half < y;
-    if either(y < half, above) {
+    if (y < half) | above {
         return raised(q, above);
     }
     tie_of(q)
@@ -61,21 +54,21 @@ fn size_of(y: f64) -> u64
 }
 
 // The tick of size n and that sign, where it is kept.
-fn kept_of(negative: bool, n: u64) -> method::Tick
+fn kept_of(negative: bool, n: u64) -> Option<i64>
     ensures { result ≡ kept negative n }
 {
     if FURTHEST < n {
-        return method::Tick::Refused;
+        return None;
     }
     if negative {
-        return method::Tick::Whole(-(n as i64));
+        return Some(-(n as i64));
     }
-    method::Tick::Whole(n as i64)
+    Some(n as i64)
 }
 
 // The tick of any binary64: the nearest whole number, halves to the even one, within 2^41 either way; a NaN and an
 // infinity have none.
-pub fn to_tick(x: f64) -> method::Tick
+pub fn to_tick(x: f64) -> Option<i64>
     ensures { result ≡ tick x }
 {
     if x < 0.0 {
@@ -85,9 +78,9 @@ pub fn to_tick(x: f64) -> method::Tick
         return kept_of(false, size_of(x));
     }
     if x == 0.0 {
-        return method::Tick::Whole(0);
+        return Some(0);
     }
-    method::Tick::Refused
+    None
 }
 
 // A tick as a binary64: exact, so that to_tick gives it back.
@@ -102,8 +95,5 @@ pub fn whole_float(z: i64) -> f64
 pub fn whole_back(x: f64) -> i64
     ensures { result ≡ whole_of (tick x) }
 {
-    match to_tick(x) {
-        method::Tick::Whole(z) => z,
-        method::Tick::Refused => 0,
-    }
+    to_tick(x).unwrap_or(0)
 }

@@ -1,9 +1,9 @@
 -- The weights, and the method's sums as loops over turns. Assumes nothing.
-use Prim.Native.Nat.{ℕ, zero, suc, ◌+◌, ◌-◌, ◌*◌, ◌/◌, ◌%◌, ◌^◌, ◌<◌, ◌≤◌}
+use Prim.Native.Nat.{ℕ, zero, suc, ◌+◌, ◌-◌, ◌*◌, ◌/◌, ◌%◌, ◌<◌}
 use mathlib.Core.Path.{◌≡◌, refl, sym, ap, ◌∙◌}
 use mathlib.Core.Bool.{cond}
 use mathlib.Core.List.{List, zip_with}
-use native.Mathlib.Nat.{mul-one, mul-le-mul}
+use native.Mathlib.Nat.{mul-one}
 use native.Mathlib.Omega.{arith}
 use lib.Ieee.{Float, binary64, of_bits, of_fields}
 use Rattle.laws.specs.Loops.{up}
@@ -35,19 +35,9 @@ axis_end (suc (suc zero)) l h = absurd (h refl)
 axis_end (suc (suc (suc zero))) l h = refl
 axis_end (suc (suc (suc (suc q)))) l h = absurd (omega arith)
 
--- products of whole numbers up to 3
-pub few_fit : (a b : ℕ) → a ≤ 3 → b ≤ 3 → a * b < 2 ^ 32
-few_fit a b h i = omega (arith, mul-le-mul h i)
-
-pub few_few : (a b c : ℕ) → a ≤ 3 → b ≤ 3 → c ≤ 3 → a * (b * c) < 2 ^ 32
-few_few a b c h i j = omega (arith, mul-le-mul h (mul-le-mul i j))
-
 pub product_is : (i j k a b c : ℕ) → a ≡ axis_weight i → b ≡ axis_weight j → c ≡ axis_weight k → a * (b * c) ≡ weight_of i j k
 unfolding weight_of
 product_is i j k a b c p q r = cc
-
-pub weight_is : (i j k r : ℕ) → r ≡ weight_of i j k → ofℕ r ≡ ofℕ (weight_of i j k)
-weight_is i j k r e = ap ofℕ e
 
 -- ---- a choice along each axis is a place and a weight
 same_drawn : {i j v w : ℕ} → i ≡ j → v ≡ w → ◌≡◌ {A = Drawn} (record { cell = i; weight = v }) (record { cell = j; weight = w })

@@ -1,21 +1,21 @@
 -- A source row and a target row: a cell of the row, the four of a coarse cell, the two of a fine cell, the row of
 -- targets. Assumes nothing.
-use Prim.Native.Nat.{ℕ, zero, suc, ◌+◌, ◌-◌, ◌*◌, ◌/◌, ◌%◌, ◌<◌, ◌≤◌}
+use Prim.Native.Nat.{ℕ, ◌+◌, ◌-◌, ◌*◌, ◌/◌, ◌%◌, ◌<◌, ◌≤◌}
 use mathlib.Core.Path.{◌≡◌, refl, sym, ap, ◌∙◌}
 use mathlib.Core.Bool.{Bool, true, false, ◌&&◌, cond}
 use mathlib.Core.List.{List}
-use native.Mathlib.Numerals.{add-one}
 use native.Mathlib.Omega.{arith}
 use borrow.Author.Rules.{rules}
 use borrow.Author.Tests.{eq-eqb, ne_eqb, lt-ltb, le-ltb, le-leb, lt-leb}
 use lib.Dec.{ltb}
-use lib.ListN.{length, get_or, set, take, drop}
+use lib.ListN.{length, get_or, set, take, drop, length-drop, length-set}
+use lib.Seq.{length-take-le}
 use lib.Ieee.{Float, nan}
 use Rattle.laws.specs.Binary64.{◌⊕◌, ◌⊗◌}
 use Rattle.laws.specs.Loops.{up}
-use Rattle.laws.proofs.Loops.{Up, up_more, up_first}
-use Rattle.laws.proofs.Fill.{up_same}
-use Rattle.transfer.specs.Rows.{row_term, four, two, Share, row_step, Halves, Middle, pair_step, Pairs}
+use Rattle.laws.proofs.Loops.{Up, up_more}
+use Rattle.method.specs.Transfers.{value}
+use Rattle.transfer.specs.Rows.{row_term, four, two, Share, row_step, pair_step}
 
 -- ---- a cell of the row
 module _ (row : List Float) (p : ℕ) (w a : Float) where
@@ -59,6 +59,22 @@ module _ (row : List Float) (w v : Float) (i : ℕ) (a : Float) where
       (cell_at row (2 * i + 1) (2 * i + 2) v _ (omega arith) (omega arith))
       (cell_at row (2 * i + 2) (2 * i + 3) w _ (omega arith) (omega arith))
 
+-- a part of the room, as the code borrows it
+pub as_lent : (r : List Float) (f n : ℕ) → take (f + n - f) (drop f r) ≡ take n (drop f r)
+as_lent r f n = let long : f + n - f ≡ n = omega arith in ap (λ k. take k (drop f r)) long
+
+-- the four of such a part
+module _ (r : List Float) (f n : ℕ) (w v : Float) (i : ℕ) (a : Float) where
+  pub part_four : (b c d e : Float) → b ≡ row_term (take (f + n - f) (drop f r)) (2 * i) w a → c ≡ row_term (take (f + n - f) (drop f r)) (2 * i + 1) v b
+      → d ≡ row_term (take (f + n - f) (drop f r)) (2 * i + 2) v c → e ≡ row_term (take (f + n - f) (drop f r)) (2 * i + 3) w d
+      → e ≡ four (take n (drop f r)) w v i a
+  part_four b c d e p q s t = four_is _ w v i a b c d e p q s t ∙ ap (λ k. four k w v i a) (as_lent r f n)
+
+  pub inside_is : f + n ≤ length r → 0 < i → 2 * i + 3 ≤ n
+      → a ⊕ w ⊗ get_or (take (f + n - f) (drop f r)) (2 * i - 1) nan ⊕ v ⊗ get_or (take (f + n - f) (drop f r)) (2 * i) nan
+      ⊕ v ⊗ get_or (take (f + n - f) (drop f r)) (2 * i + 1) nan ⊕ w ⊗ get_or (take (f + n - f) (drop f r)) (2 * i + 2) nan ≡ four (take n (drop f r)) w v i a
+  inside_is l h m = four_inside _ w v i a h (omega (arith, length-take-le (f + n - f) (drop f r) (omega (arith, length-drop f r)))) ∙ ap (λ k. four k w v i a) (as_lent r f n)
+
 -- ---- the two
 module _ (row : List Float) (w v : Float) (i : ℕ) (a : Float) where
   pub two_even : (b c : Float) → i % 2 ≡ 0 → b ≡ row_term row ((i + 1) / 2) w a → c ≡ row_term row ((i + 1) / 2 + 1) v b → c ≡ two row w v i a
@@ -72,6 +88,19 @@ module _ (row : List Float) (w v : Float) (i : ℕ) (a : Float) where
   two_odd b c h p q =
       q ∙ ap (row_term row ((i + 1) / 2 + 1) w) p
       ∙ ap (λ t. row_term row ((i + 1) / 2 + 1) (cond t v w) (row_term row ((i + 1) / 2) (cond t w v) a)) (sym (ne_eqb (i % 2) 0 h))
+
+-- the same of a part of the room, under the weights of the lower and the upper cell
+module _ (r : List Float) (f n : ℕ) (w v : Float) (i : ℕ) (a b c : Float) (q : Float × Float)
+    (below : b ≡ row_term (take (f + n - f) (drop f r)) ((i + 1) / 2) q.0 a) (above : c ≡ row_term (take (f + n - f) (drop f r)) ((i + 1) / 2 + 1) q.1 b) where
+  pub part_even : i % 2 ≡ 0 → q ≡ (w, v) → c ≡ two (take n (drop f r)) w v i a
+  part_even h e =
+      two_even _ w v i a b c h (below ∙ ap (λ q. row_term (take (f + n - f) (drop f r)) ((i + 1) / 2) q.0 a) e) (above ∙ ap (λ q. row_term (take (f + n - f) (drop f r)) ((i + 1) / 2 + 1) q.1 b) e)
+      ∙ ap (λ k. two k w v i a) (as_lent r f n)
+
+  pub part_odd : (i % 2 ≡ 0 → ⊥) → q ≡ (v, w) → c ≡ two (take n (drop f r)) w v i a
+  part_odd h e =
+      two_odd _ w v i a b c h (below ∙ ap (λ q. row_term (take (f + n - f) (drop f r)) ((i + 1) / 2) q.0 a) e) (above ∙ ap (λ q. row_term (take (f + n - f) (drop f r)) ((i + 1) / 2 + 1) q.1 b) e)
+      ∙ ap (λ k. two k w v i a) (as_lent r f n)
 
 module _ (row : List Float) (w v : Float) (j : ℕ) (a : Float) (l : j + 1 < length row) where
   pub odd_inside : a ⊕ v ⊗ get_or row j nan ⊕ w ⊗ get_or row (j + 1) nan ≡ two row w v (2 * j + 1) a
@@ -87,64 +116,45 @@ module _ (row : List Float) (w v : Float) (j : ℕ) (a : Float) (l : j + 1 < len
       (cell_at row (j + 1) ((2 * j + 2 + 1) / 2 + 1) v _ (omega arith) (omega arith))
 
 -- ---- a target cell, as the code sets it
-pub row_set : (share : Share) (f n o i : ℕ) (w v r : Float) (e : List Float) → r ≡ share (take (f + n - f) (drop f e)) w v i (get_or e (o + i) nan)
-    → set e (o + i) r ≡ row_step share f n o w v i e
-row_set share f n o i w v r e q =
-    let long : f + n - f ≡ n = omega arith in
-    ap (set e (o + i)) (q ∙ ap (λ k. share (take k (drop f e)) w v i (get_or e (o + i) nan)) long)
+pub row_set : (share : Share) (f n o i : ℕ) (w v r : Float) (e : List Float) → r ≡ share (take n (drop f e)) w v i (value e (o + i)) → set e (o + i) r ≡ row_step share f n o w v i e
+row_set share f n o i w v r e q = ap (set e (o + i)) q
 
--- ---- the row: its first cell, then the others
-module _ (share : Share) (f n o : ℕ) (w v : Float) (e a : List Float) (p : a ≡ row_step share f n o w v 0 e) where
-  first_rest : (r : ℕ) (b : List Float) → b ≡ up (λ j. row_step share f n o w v (j + 1)) r a → b ≡ up (row_step share f n o w v) (r + 1) e
-  first_rest r b q =
-      q
-      ∙ up_same (λ j. row_step share f n o w v (j + 1)) (λ j. row_step share f n o w v (suc j)) a r (λ j s l. ap (λ k. row_step share f n o w v k s) (add-one j))
-      ∙ ap (up (λ j. row_step share f n o w v (suc j)) r) p
-      ∙ sym (up_first (row_step share f n o w v) r e)
-      ∙ ap (λ k. up (row_step share f n o w v) k e) (sym (add-one r))
+-- ---- the row, cell after cell
+module _ (share : Share) (f n o : ℕ) (w v : Float) (e s : List Float) where
+  -- its first cell
+  pub row_first : s ≡ row_step share f n o w v 0 e → Up (row_step share f n o w v) e 1 s
+  unfolding up
+  row_first p = record { is = p }
 
-  one_last : (r m : ℕ) (b c : List Float) → b ≡ up (row_step share f n o w v) (r + 1) e → r + 1 + 1 ≡ m → c ≡ row_step share f n o w v (r + 1) b → c ≡ up (row_step share f n o w v) m e
-  one_last r m b c h k q =
-      let u : Up (row_step share f n o w v) e (r + 1) b = record { is = h } in
-      (up_more u q).is ∙ ap (λ k. up (row_step share f n o w v) k e) k
+  -- its last one
+  pub row_last : (t : List Float) (i l m : ℕ) → Up (row_step share f n o w v) e i s → i ≡ l → l + 1 ≡ m → t ≡ row_step share f n o w v l s → t ≡ up (row_step share f n o w v) m e
+  row_last t i l m u k j q = q ∙ ap (λ i. row_step share f n o w v i s) (sym k) ∙ (up_more u refl).is ∙ ap (λ k. up (row_step share f n o w v) (k + 1) e) k ∙ ap (λ k. up (row_step share f n o w v) k e) j
 
--- those in the middle and the last, of a row of coarse cells
-module _ (f n o m r : ℕ) (w v : Float) (e a b : List Float) (p : a ≡ row_step four f n o w v 0 e) (h : Middle four f n o m w v a b r) where
-  pub row_done : m ≤ r + 1 → b ≡ up (row_step four f n o w v) m e
-  row_done l = let k : r + 1 ≡ m = omega (arith, h.most) in first_rest four f n o w v e a p r b h.is ∙ ap (λ k. up (row_step four f n o w v) k e) k
+-- the two fine cells between a coarse cell and the next: what the code adds to each, the row as it borrows it
+module _ (f n o j : ℕ) (w v : Float) where
+  pub pair_is : (e : List Float) (x y : Float) → o + (2 * j + 2) < length e → f + n ≤ length e → j + 1 < n
+      → x ≡ value e (o + (2 * j + 1)) ⊕ v ⊗ value (take (f + n - f) (drop f e)) j ⊕ w ⊗ value (take (f + n - f) (drop f e)) (j + 1)
+      → y ≡ value (set e (o + (2 * j + 1)) x) (o + (2 * j + 1) + 1)
+      ⊕ w ⊗ value (take (f + n - f) (drop f (set e (o + (2 * j + 1)) x))) j ⊕ v ⊗ value (take (f + n - f) (drop f (set e (o + (2 * j + 1)) x))) (j + 1)
+      → set (set e (o + (2 * j + 1)) x) (o + (2 * j + 1) + 1) y ≡ pair_step f n o w v j e
+  pair_is e x y l inside few p q =
+      let a : List Float = set e (o + (2 * j + 1)) x in
+      let place : o + (2 * j + 1) + 1 ≡ o + (2 * j + 2) = omega arith in
+      let long : (s : List Float) → length s ≡ length e → j + 1 < length (take (f + n - f) (drop f s)) =
+      λ s k. omega (arith, length-take-le (f + n - f) (drop f s) (omega (arith, length-drop f s))) in
+      let first : a ≡ row_step two f n o w v (2 * j + 1) e =
+      ap (set e (o + (2 * j + 1))) (p ∙ odd_inside _ w v j _ (long e refl) ∙ ap (λ k. two k w v (2 * j + 1) (value e (o + (2 * j + 1)))) (as_lent e f n)) in
+      let sum : y ≡ two (take n (drop f a)) w v (2 * j + 2) (value a (o + (2 * j + 1) + 1)) =
+      q ∙ even_inside _ w v j _ (long a (length-set e (o + (2 * j + 1)) x)) ∙ ap (λ k. two k w v (2 * j + 2) (value a (o + (2 * j + 1) + 1))) (as_lent a f n) in
+      ap (set a (o + (2 * j + 1) + 1)) sum ∙ ap (λ i. set a i (two (take n (drop f a)) w v (2 * j + 2) (value a i))) place
+      ∙ ap (row_step two f n o w v (2 * j + 2)) first
 
-  pub row_last : (c : List Float) → r + 1 < m → c ≡ row_step four f n o w v (r + 1) b → c ≡ up (row_step four f n o w v) m e
-  row_last c l q = one_last four f n o w v e a p r m b c (first_rest four f n o w v e a p r b h.is) (omega (arith, h.least)) q
+  pub pair_more : (e s t : List Float) → Up (row_step two f n o w v) e (2 * j + 1) s → t ≡ pair_step f n o w v j s → Up (row_step two f n o w v) e (2 * (j + 1) + 1) t
+  pair_more e s t u q =
+      let k : 2 * j + 1 + 1 + 1 ≡ 2 * (j + 1) + 1 = omega arith in
+      let i : 2 * j + 2 ≡ 2 * j + 1 + 1 = omega arith in
+      let first : Up (row_step two f n o w v) e (2 * j + 1 + 1) (row_step two f n o w v (2 * j + 1) s) = up_more u refl in
+      let both : Up (row_step two f n o w v) e (2 * j + 1 + 1 + 1) t = up_more first (q ∙ ap (λ i. row_step two f n o w v i (row_step two f n o w v (2 * j + 1) s)) i) in
+      record { is = both.is ∙ ap (λ k. up (row_step two f n o w v) k e) k }
 
-pub middle_is : (f n o m r : ℕ) (w v : Float) (e s : List Float) → Halves n m → Up (λ j. row_step four f n o w v (j + 1)) e r s → r + 1 ≤ m → n ≤ 2 * r + 4
-    → Middle four f n o m w v e s r
-middle_is f n o m r w v e s h u l k = record { is = u.is; most = l; least = omega (arith, h.few) }
-
--- the pairs and the last, of a row of fine cells
-pub pair_is : (f n o j : ℕ) (w v : Float) (e a b : List Float) → a ≡ row_step two f n o w v (2 * j + 1) e → b ≡ row_step two f n o w v (2 * j + 2) a → b ≡ pair_step f n o w v j e
-pair_is f n o j w v e a b p q = q ∙ ap (row_step two f n o w v (2 * j + 2)) p
-
-pairs_all : (f n o : ℕ) (w v : Float) (a : List Float) (r : ℕ) → up (pair_step f n o w v) r a ≡ up (λ j. row_step two f n o w v (j + 1)) (2 * r) a
-unfolding up
-pairs_all f n o w v a zero = refl
-pairs_all f n o w v a (suc r) =
-    let k : 2 * suc r ≡ suc (suc (2 * r)) = omega arith in
-    let i : 2 * r + 2 ≡ suc (2 * r) + 1 = omega arith in
-    ap (pair_step f n o w v r) (pairs_all f n o w v a r)
-    ∙ ap (λ k. row_step two f n o w v k (row_step two f n o w v (2 * r + 1) (up (λ j. row_step two f n o w v (j + 1)) (2 * r) a))) i
-    ∙ ap (λ n'. up (λ j. row_step two f n o w v (j + 1)) n' a) (sym k)
-
-module _ (f n o m r : ℕ) (w v : Float) (e a b : List Float) (p : a ≡ row_step two f n o w v 0 e) (h : Pairs f n o m w v a b r) where
-  after_pairs : b ≡ up (row_step two f n o w v) (2 * r + 1) e
-  after_pairs = first_rest two f n o w v e a p (2 * r) b (h.is ∙ pairs_all f n o w v a r)
-
-  pub pairs_done : m ≤ 2 * r + 1 → b ≡ up (row_step two f n o w v) m e
-  pairs_done l = let k : 2 * r + 1 ≡ m = omega (arith, h.most) in after_pairs ∙ ap (λ k. up (row_step two f n o w v) k e) k
-
-  pub pairs_last : (c : List Float) → 2 * r + 1 < m → c ≡ row_step two f n o w v (2 * r + 1) b → c ≡ up (row_step two f n o w v) m e
-  pairs_last c l q = one_last two f n o w v e a p (2 * r) m b c after_pairs (omega (arith, h.least)) q
-
-pub pairs_are : (f n o m r : ℕ) (w v : Float) (e s : List Float) → Up (pair_step f n o w v) e r s → 2 * r + 1 ≤ m → m ≤ 2 * r + 2 → Pairs f n o m w v e s r
-pairs_are f n o m r w v e s u l k = record { is = u.is; most = l; least = k }
-
-pub ruleset rows = (rules, cell_none, cell_in, cell_out, four_is, four_inside, row_set, row_done, row_last, two_even, two_odd, odd_inside, even_inside, pair_is, pairs_done, pairs_last)
+pub ruleset rows = (rules, cell_none, cell_in, cell_out, four_is, four_inside, row_set, row_first, row_last, two_even, two_odd, odd_inside, even_inside, pair_is, pair_more)

@@ -1,21 +1,23 @@
 -- A stretch of a room: what is around it stays, what it holds, the same stretch again, the stretch after it. Assumes
 -- nothing.
 use Prim.Native.Nat.{ℕ, zero, suc, ◌+◌, ◌-◌, ◌<◌, ◌≤◌}
-use mathlib.Core.Path.{◌≡◌, refl, sym, ap, ap₂, ◌∙◌}
+use mathlib.Core.Path.{◌≡◌, sym, ap, ap₂, ◌∙◌}
 use mathlib.Core.Logic.{◌⊎◌, ⊎_elim}
 use mathlib.Core.List.{List, [], ◌∷◌, ◌++◌, append_assoc}
 use native.Mathlib.Nat.{zero-add}
 use native.Mathlib.Omega.{arith}
+use borrow.Rule.Slice.PartMut.{mid_of, put_mid}
 use lib.ListN.{length, get_or, set, take, drop, length-append, length-drop, take-append-drop, get_or-append}
 use lib.Seq.{get_or-take, get_or-drop, get_or-append-add, length-take-le, take_at, drop_at}
-use lib.Ieee.{Float, nan}
+use lib.Ieee.{Float, nan, binary64, of_bits}
 use Rattle.laws.specs.Loops.{up}
 use Rattle.laws.specs.Lists.{tab}
 use Rattle.laws.specs.Binary64.{+0}
-use Rattle.laws.proofs.Loops.{Up, up_end}
 use Rattle.laws.proofs.Lists.{length_tab, get_or_tab}
 use Rattle.laws.proofs.Fill.{tab_same, part_take, part_drop, filled}
+use Rattle.method.specs.Rooms.{cleared}
 use Rattle.method.specs.Transfers.{value}
+use Rattle.rooms.proofs.Clears.{zeroed_part}
 use Rattle.transfer.specs.Rows.{Stretch}
 
 -- two tabs, one after the other
@@ -99,9 +101,15 @@ pub stretch_filled : (f : ℕ → List Float → Float) (o m : ℕ) (e s : List 
     → s ≡ up (λ c t. set t (o + c) (f c t)) m e → Stretch (λ c. f c e) o m e s
 stretch_filled f o m e s room same q = record { is = q ∙ filled f e o m room same }
 
--- a stretch of zeros
-pub cleared : (o m i : ℕ) (e s : List Float) → o + m ≤ length e → Up (λ k e. set e (o + k) +0) e i s → i ≤ m → m ≤ i → Stretch (λ i. +0) o m e s
-cleared o m i e s room u a b = stretch_filled (λ c t. +0) o m e s room (λ c t l front end. refl) (up_end m u a b)
+-- a part that is lent to the room's end holds the stretch
+pub lent_long : (o m : ℕ) (e : List Float) → o + m ≤ length e → m ≤ length (mid_of o (length e - o) e)
+lent_long o m e room = omega (arith, length-take-le (length e - o) (drop o e) (omega (arith, length-drop o e)), length-drop o e)
+
+-- a stretch of zeros, in a part that was lent to the room's end and came home cleared
+pub zeros_home : (o m : ℕ) (e part : List Float) → o + m ≤ length e → part ≡ cleared m (of_bits binary64 0) (mid_of o (length e - o) e)
+    → Stretch (λ i. +0) o m e (put_mid o (length e - o) e part)
+zeros_home o m e part room q =
+    record { is = zeroed_part o m e part (omega arith) q ∙ sym (append_assoc (take o e) (tab m (λ i. +0)) (drop (o + m) e)) }
 
 -- a cell of what is left, and one of what is in front
 pub value_left : (k j : ℕ) (e s : List Float) → k ≤ j → drop k s ≡ drop k e → value s j ≡ value e j

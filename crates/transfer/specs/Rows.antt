@@ -50,20 +50,9 @@ pub record Halves (n m : ℕ) : Type 0 where
   pub enough : n ≤ 2 * m
   pub few : 2 * m ≤ n + 1
 
--- the cells from 1 on, after r turns, of which the first r + 1 cells are done, all but one at least
-pub record Middle (share : Share) (f n o m : ℕ) (w v : Float) (e s : List Float) (r : ℕ) : Type 0 where
-  pub is : s ≡ up (λ j. row_step share f n o w v (j + 1)) r e
-  pub most : r + 1 ≤ m
-  pub least : m ≤ r + 2
-
 -- fine cells 2·j + 1 and 2·j + 2
 abbrev pub pair_step : ℕ → ℕ → ℕ → Float → Float → ℕ → List Float → List Float
 pair_step f n o w v j e = row_step two f n o w v (2 * j + 2) (row_step two f n o w v (2 * j + 1) e)
-
-pub record Pairs (f n o m : ℕ) (w v : Float) (e s : List Float) (r : ℕ) : Type 0 where
-  pub is : s ≡ up (pair_step f n o w v) r e
-  pub most : 2 * r + 1 ≤ m
-  pub least : m ≤ 2 * r + 2
 
 -- ---- the source rows around the target row at y, z
 -- the source field of n cells at `from`, the target row of m cells at o

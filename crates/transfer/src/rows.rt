@@ -1,8 +1,23 @@
-// What both transfers do to a row: a sum with one cell of a source row more, and the sums of a target row at their
-// start.
-ghost use Rattle.std.specs.Prelude.{◌≡◌, ◌+◌, ◌≤◌, length};
-ghost use Rattle.laws.specs.Binary64.{+0};
-ghost use Rattle.transfer.specs.Rows.{Stretch, row_term};
+// What both transfers do to a row: which two rows, and a sum with one cell of a source row more.
+ghost use Rattle.std.specs.Prelude.{◌≡◌};
+ghost use Rattle.transfer.specs.Rows.{row_term};
+
+// A source row and a target row of one room, and the weights under which the one is added to the other.
+#[derive(Clone, Copy)]
+pub struct RowPair {
+    // where the source row begins
+    pub from: usize,
+    // how many cells it has
+    pub cells: usize,
+    // where the target row begins, which holds sums
+    pub to: usize,
+    // how many sums it has
+    pub sums: usize,
+    // the weight of a source cell that lies farther from the target cell
+    pub far: f64,
+    // of one that lies nearer
+    pub near: f64,
+}
 
 // The sum a with the row's cell p, counted from one, where it is in the row.
 pub fn add_cell(row: &[f64], p: usize, w: f64, a: f64) -> f64
@@ -15,17 +30,5 @@ pub fn add_cell(row: &[f64], p: usize, w: f64, a: f64) -> f64
         a + w * row[p - 1]
     } else {
         a
-    }
-}
-
-// The m sums at o start at +0.0.
-pub fn clear_row(room: &mut [f64], o: usize, m: usize)
-    requires { o + m ≤ length room.old }
-    ensures { Stretch (λ i. +0) o m room.old room.new }
-{
-    let mut i = 0;
-    while i < m {
-        room[o + i] = 0.0;
-        i += 1;
     }
 }

@@ -1,23 +1,21 @@
 -- Laws of the walk for the worst cell. Assumes nothing.
-use Prim.Native.Nat.{ℕ, ◌^◌, ◌≤◌, ◌<◌}
+use Prim.Native.Nat.{ℕ, ◌^◌, ◌<◌}
 use mathlib.Core.Path.{◌≡◌, sym, ap, ap₂, ◌∙◌}
 use mathlib.Core.Bool.{Bool, true, false, ◌&&◌}
 use mathlib.Core.List.{List}
 use native.Mathlib.Omega.{arith}
-use borrow.Author.Rules.{rules}
 use borrow.Author.Tests.{eq-eqb, ne_eqb}
 use lib.Dec.{eqb, eqb→eq}
-use lib.IntN.{ℤ, pos, nat_abs}
+use lib.IntN.{ℤ, pos, negsuc, nat_abs}
 use lib.Ieee.{Float}
-use lib.ListN.{length}
+use mir.Syntax.{w32}
+use mir.Val.{SFits}
 use Rattle.laws.proofs.Bools.{and_l, and_r}
 use Rattle.method.specs.declared.Sides.{Sides}
-use Rattle.method.specs.declared.Found.{Found}
-use Rattle.method.specs.declared.Found.TheVariants.{Nowhere, At}
+use Rattle.std.specs.Prelude.{Option, None, Some}
 use Rattle.method.specs.Cast.{cells, label_at, is_air, judged, field, residual, worst, first, is_worst, worst_cell, worst_value}
 use Rattle.theory.proofs.Reach.{test_air}
-use Rattle.theory.proofs.Firsts.{FirstAt, Search, found, none, search_first, None, none_none, none_more, none_end, hit}
-use Rattle.grid.proofs.Steps.{cells_most}
+use Rattle.theory.proofs.Firsts.{FirstAt, Search, found, none, search_first}
 use Rattle.answers.specs.declared.Worst.{Worst}
 use Rattle.ticks.specs.Faces.{Residual}
 use Rattle.acceptance.specs.Cells.{rounded_on}
@@ -37,44 +35,36 @@ module _ (g : Sides) (ls : List ℕ) (vs ps : List ℤ) (c : ℕ) where
   not_air l e h =
       sym (ap (λ b. b && eqb (nat_abs (residual g ls (field vs) (field ps) c)) (worst (cast_of g ls vs) ps)) (ne_eqb (label_at ls c) 0 (λ q. h (e ∙ q))))
 
+fits_32 : (z : ℤ) → nat_abs z < 2 ^ 31 → SFits w32 z
+fits_32 (pos n) h = record { sfits = omega arith }
+fits_32 (negsuc n) h = record { sfits = omega arith }
+
 -- ---- the first of them
 module _ {g : Sides} {ls : List ℕ} {vs : List ℤ} {x : List Float} {w : ℕ} (z : Sought g ls vs x w) where
-  pub few : length ls ≤ 32768
-  few = omega (arith, z.asked.labelled, cells_most g z.asked.sides)
-
-  pub within : (c : ℕ) → c < length ls → c < cells g
-  within c h = omega (arith, z.asked.labelled)
-
   abbrev ps : List ℤ
   ps = rounded_on g ls vs x
 
   abbrev test : ℕ → Bool
   test = is_worst (cast_of g ls vs) (rounded_on g ls vs x)
 
-  pub cell_hit : (i : ℕ) (r : Bool) → i < length ls → None test i → r ≡ test i → r ≡ true → At i ≡ first test (cells g)
-  cell_hit i r h k e f = hit test i (cells g) r (omega (arith, z.asked.labelled)) k e f
-
-  pub cell_none : (i : ℕ) → i ≤ length ls → length ls ≤ i → None test i → Nowhere ≡ first test (cells g)
-  cell_none i a b k = none_end test i (cells g) (omega (arith, z.asked.labelled)) (omega (arith, z.asked.labelled)) k
-
   -- ---- what was found
   abbrev pair : ℕ → ℤ → Worst
   pair c v = record { cell = c; left = v }
 
-  abbrev cell_in : Found → ℕ
-  cell_in f = elim f [ At c ↦ c | Nowhere ↦ 0 ]
+  abbrev cell_in : Option ℕ → ℕ
+  cell_in f = elim f [ Some c ↦ c | None ↦ 0 ]
 
-  abbrev value_in : Found → ℤ
-  value_in f = elim f [ At c ↦ residual g ls (field vs) (field (rounded_on g ls vs x)) c | Nowhere ↦ pos 0 ]
+  abbrev value_in : Option ℕ → ℤ
+  value_in f = elim f [ Some c ↦ residual g ls (field vs) (field (rounded_on g ls vs x)) c | None ↦ pos 0 ]
 
-  module _ (c : ℕ) (f : Found) (e : f ≡ first test (cells g)) (h : f ≡ At c) where
+  module _ (c : ℕ) (f : Option ℕ) (e : f ≡ first test (cells g)) (h : f ≡ Some c) where
     found_at : FirstAt test (cells g) c
     found_at = go (search_first test (cells g))
       where
-        same : {i j : ℕ} → At i ≡ At j → i ≡ j
+        same : {i j : ℕ} → Some i ≡ Some j → i ≡ j
         same q = cc
 
-        never : {i : ℕ} → Nowhere ≡ At i → ⊥
+        never : {i : ℕ} → None ≡ Some i → ⊥
         never q = let o : ◌≡◌ {A = ℕ} 0 1 = cc in omega arith
 
         go : Search test (cells g) → FirstAt test (cells g) c
@@ -88,22 +78,23 @@ module _ {g : Sides} {ls : List ℕ} {vs : List ℤ} {x : List Float} {w : ℕ} 
     unfolding is_worst judged
     found_air = sym (test_air ls c (and_l (is_air ls c) _ found_at.here))
 
-    pub found_small : (r : ℤ) → Residual g ls vs ps c r → nat_abs r < 2 ^ 31
+    found_small : (r : ℤ) → Residual g ls vs ps c r → nat_abs r < 2 ^ 31
     unfolding is_worst judged
     found_small r q =
         let size : nat_abs (residual g ls (field vs) (field ps) c) ≡ worst (cast_of g ls vs) ps = eqb→eq _ _ (and_r (is_air ls c) _ found_at.here) in
         omega (arith, ap nat_abs q.is, size, z.is, z.small)
 
+    pub found_fits : (r : ℤ) → Residual g ls vs ps c r → SFits w32 r
+    found_fits r q = fits_32 r (found_small r q)
+
     pub found_is : (r s : ℤ) → Residual g ls vs ps c r → s ≡ r → ◌≡◌ {A = Worst} (record { cell = c; left = s }) (worst_of (cast_of g ls vs) ps)
     unfolding worst_cell worst_value
     found_is r s q o =
-        let here : At c ≡ first test (cells g) = sym h ∙ e in
+        let here : Some c ≡ first test (cells g) = sym h ∙ e in
         ap₂ pair (ap cell_in here) (o ∙ q.is ∙ ap value_in here)
 
-  pub nothing_is : (f : Found) → f ≡ first test (cells g) → f ≡ Nowhere → ◌≡◌ {A = Worst} (record { cell = 0; left = pos 0 }) (worst_of (cast_of g ls vs) ps)
+  pub nothing_is : (f : Option ℕ) → f ≡ first test (cells g) → f ≡ None → ◌≡◌ {A = Worst} (record { cell = 0; left = pos 0 }) (worst_of (cast_of g ls vs) ps)
   unfolding worst_cell worst_value
-  nothing_is f e h = let here : Nowhere ≡ first test (cells g) = sym h ∙ e in ap₂ pair (ap cell_in here) (ap value_in here)
+  nothing_is f e h = let here : None ≡ first test (cells g) = sym h ∙ e in ap₂ pair (ap cell_in here) (ap value_in here)
 
 pub ruleset walking = (wholes, sized_is, not_air)
-
-pub ruleset searching = (rules, none_none, none_more, few, within, cell_hit, cell_none)

@@ -16,7 +16,7 @@ use Rattle.acceptance.proofs.residual_at.Goals as goal
 
 pub residual_of-requires : goal.residual_of-requires
 residual_of-requires c =
-    let b = source_is (field c.args.values.now c.args.c) c.wide-source.result (record { sfits = c.wide-arg-1.given }) c.wide-source.ensures in
+    let b = source_is (field c.args.values.now c.args.c) c.from-source.result (record { sfits = c.from-arg-1.given }) c.from-source.ensures in
     let k : nat_abs c.gather-a.result.sum ≤ 2 ^ 44 = omega (arith, c.gather-a.ensures.small) in
     let h = c.whole_at-own.ensures.small in
     search gathers
@@ -26,14 +26,14 @@ returns c =
     let s = c.args in
     let m = c.gather-a in
     let ps = rounded_on s.g s.labels.now s.values.now s.x.now in
-    let source = source_is (field s.values.now s.c) c.wide-source.result (record { sfits = c.wide-arg-1.given }) c.wide-source.ensures in
+    let source = source_is (field s.values.now s.c) c.from-source.result (record { sfits = c.from-arg-1.given }) c.from-source.ensures in
     let own : c.whole_at-own.result ≡ field ps s.c =
     pressure_is s.g s.labels.now s.values.now s.x.now s.c 0 c.whole_at-own.result c.requires.0.labelled c.requires.1.1 c.whole_at-own.ensures in
-    let e : c.residual_of.result ≡ c.wide-source.result +ᶻ m.result.sum -ᶻ pos m.result.d *ᶻ c.whole_at-own.result =
-    gives_residual c.wide-source.result m.result.sum c.whole_at-own.result c.residual_of.result m.result.d (record { sfits = c.wide-source.type_inv })
+    let e : c.residual_of.result ≡ c.from-source.result +ᶻ m.result.sum -ᶻ pos m.result.d *ᶻ c.whole_at-own.result =
+    gives_residual c.from-source.result m.result.sum c.whole_at-own.result c.residual_of.result m.result.d (record { sfits = c.from-source.type_inv })
     (most_fits m.result.sum (6 * 2 ^ 41) m.ensures.small (omega arith)) (record { sfits = c.whole_at-own.type_inv }) c.residual_of.ensures in
     let f : SFits w64 c.residual_of.result = record { sfits = c.residual_of.type_inv } in
     rw (to_z-of_z f)
-    (residual_made s.g s.labels.now s.values.now ps s.c m.result c.wide-source.result c.residual_of.result
+    (residual_made s.g s.labels.now s.values.now ps s.c m.result c.from-source.result c.residual_of.result
     source.0 source.1 (omega (arith, ap nat_abs own, c.whole_at-own.ensures.small)) m.ensures
-    (e ∙ ap (λ z. c.wide-source.result +ᶻ m.result.sum -ᶻ pos m.result.d *ᶻ z) own))
+    (e ∙ ap (λ z. c.from-source.result +ᶻ m.result.sum -ᶻ pos m.result.d *ᶻ z) own))

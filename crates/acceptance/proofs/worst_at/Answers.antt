@@ -6,14 +6,14 @@ use lib.IntN.{nat_abs}
 use Rattle.acceptance.proofs.Laws.{gathers}
 use Rattle.acceptance.proofs.worst_at.Goals as goal
 
-pub size-a-requires : goal.size-a-requires
-size-a-requires c = let h : nat_abs c.residual_at.result < 2 ^ 63 = omega (arith, c.residual_at.ensures.small) in search gathers
+pub unsigned_abs-a-requires : goal.unsigned_abs-a-requires
+unsigned_abs-a-requires c = let h : nat_abs c.residual_at.result < 2 ^ 63 = omega (arith, c.residual_at.ensures.small) in search gathers
 
 pub returns-then-w-a : goal.returns-then-w-a
-returns-then-w-a c = let n : c.size-a.result ≡ nat_abs c.residual_at.result = search gathers in search gathers
+returns-then-w-a c = let n : c.unsigned_abs-a.result ≡ nat_abs c.residual_at.result = search gathers in search gathers
 
 pub returns-else-w-a : goal.returns-else-w-a
-returns-else-w-a c = let n : c.size-a.result ≡ nat_abs c.residual_at.result = search gathers in search gathers
+returns-else-w-a c = let n : c.unsigned_abs-a.result ≡ nat_abs c.residual_at.result = search gathers in search gathers
 
 pub returns-else-label_at-eq0 : goal.returns-else-label_at-eq0
 returns-else-label_at-eq0 c = search gathers

@@ -10,12 +10,6 @@ loop-c-init c = search (ups, length-set)
 pub write_at-requires : goal.write_at-requires
 write_at-requires c = search (ups, length-set)
 
-pub overflow_add-c : goal.overflow_add-c
-overflow_add-c c = search (ups, length-set)
-
-pub loop-c-smaller : goal.loop-c-smaller
-loop-c-smaller c = search (ups, length-set)
-
 pub loop-c-preserved : goal.loop-c-preserved
 loop-c-preserved c = search (ups, length-set)
 

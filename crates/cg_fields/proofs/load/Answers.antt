@@ -6,20 +6,8 @@ use Rattle.cg_fields.proofs.load.Goals as goal
 pub loop-c-init : goal.loop-c-init
 loop-c-init c = search ups
 
-pub load_at-requires : goal.load_at-requires
-load_at-requires c = search ups
-
-pub overflow_add-c : goal.overflow_add-c
-overflow_add-c c = search ups
-
-pub loop-c-smaller : goal.loop-c-smaller
-loop-c-smaller c = search ups
-
 pub loop-c-preserved : goal.loop-c-preserved
 loop-c-preserved c = search ups
-
-pub shape_of-room : goal.shape_of-room
-shape_of-room c = search ups
 
 pub returns : goal.returns
 returns c = search (ups, load_is)

@@ -9,9 +9,6 @@ coarse_correction-level_labels-labels-requires t c = search cycles
 pub coarse_correction-level_labels-below-requires : goal.coarse_correction-level_labels-below-requires
 coarse_correction-level_labels-below-requires t c = search cycles
 
-pub coarse_correction-level_air-air-requires : goal.coarse_correction-level_air-air-requires
-coarse_correction-level_air-air-requires t c = search cycles
-
 pub coarse_correction-lower-requires : goal.coarse_correction-lower-requires
 coarse_correction-lower-requires t c =
     let r = c.requires in
@@ -75,12 +72,6 @@ coarse_correction-returns t c =
 
 pub cycle-level_labels-labels-requires : goal.cycle-level_labels-labels-requires
 cycle-level_labels-labels-requires t c = search cycles
-
-pub cycle-level_list-list-requires : goal.cycle-level_list-list-requires
-cycle-level_list-list-requires t c = search cycles
-
-pub cycle-level_air-air-requires : goal.cycle-level_air-air-requires
-cycle-level_air-air-requires t c = search cycles
 
 pub cycle-clear_u-requires : goal.cycle-clear_u-requires
 cycle-clear_u-requires t c = search cycles

@@ -1,5 +1,5 @@
 -- `cycle::coarsest` meets its contract: after i turns the room is i sweeps on. Assumes nothing.
-use Prim.Native.Nat.{◌≤◌, ◌-◌}
+use Prim.Native.Nat.{◌-◌}
 use mathlib.Core.Path.{◌≡◌}
 use lib.ListN.{length}
 use Rattle.laws.specs.Binary64.{+0}
@@ -10,7 +10,4 @@ use Rattle.cycle.specs.Strokes.{coarsest_turn}
 use Rattle.cycle.proofs.coarsest.Given as goal
 
 abbrev pub invariant-loop-i : goal.invariant-loop-i
-invariant-loop-i l = (l.i ≤ 16) × (length l.room ≡ length l.initial.room) × (value l.room (length l.room - 1) ≡ +0) × Up (coarsest_turn l.g l.labels (cells_of l.list)) l.initial.room l.i l.room
-
-abbrev pub decreases-loop-i : goal.decreases-loop-i
-decreases-loop-i l = 16 - l.i
+invariant-loop-i l = (value l.room (length l.room - 1) ≡ +0) × Up (coarsest_turn l.g l.labels (cells_of l.list)) l.initial.room l.i l.room

@@ -1,5 +1,5 @@
--- `cycle::sweep_times` meets its contract: after i turns the room is i turns on. Assumes nothing.
-use Prim.Native.Nat.{◌≤◌, ◌-◌}
+-- `cycle::sweep_times` meets its contract: after so many turns the room is so many sweeps on. Assumes nothing.
+use Prim.Native.Nat.{◌-◌}
 use mathlib.Core.Path.{◌≡◌}
 use lib.ListN.{length}
 use Rattle.laws.specs.Binary64.{+0}
@@ -9,8 +9,5 @@ use Rattle.grid.specs.Entries.{cells_of}
 use Rattle.cycle.proofs.Laws.{turn}
 use Rattle.cycle.proofs.sweep_times.Given as goal
 
-abbrev pub invariant-loop-i : goal.invariant-loop-i
-invariant-loop-i l = (l.i ≤ l.count) × (length l.room ≡ length l.initial.room) × (value l.room (length l.room - 1) ≡ +0) × Up (turn l.forward l.g l.labels (cells_of l.list)) l.initial.room l.i l.room
-
-abbrev pub decreases-loop-i : goal.decreases-loop-i
-decreases-loop-i l = l.count - l.i
+abbrev pub invariant-loop : goal.invariant-loop
+invariant-loop l = (value l.room (length l.room - 1) ≡ +0) × Up (turn l.forward l.g l.labels (cells_of l.list)) l.initial.room l.counter l.room

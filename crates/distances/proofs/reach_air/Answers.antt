@@ -2,15 +2,6 @@
 use Rattle.distances.proofs.SearchCode.{airs}
 use Rattle.distances.proofs.reach_air.Goals as goal
 
-pub bounds-labels-j : goal.bounds-labels-j
-bounds-labels-j c = search airs
-
-pub reach_cell-requires : goal.reach_cell-requires
-reach_cell-requires c = search airs
-
-pub shape_of-room-then-air : goal.shape_of-room-then-air
-shape_of-room-then-air c = search airs
-
 pub returns-then-air : goal.returns-then-air
 returns-then-air c = search airs
 

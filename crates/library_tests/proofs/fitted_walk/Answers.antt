@@ -29,14 +29,14 @@ enum_known-sealed c = search calling
 pub enum_told-1 : goal.enum_told-1
 enum_told-1 c = search calling
 
-pub shape_of-words-in-At : goal.shape_of-words-in-At
-shape_of-words-in-At c = search calling
+pub shape_of-words-in-Some : goal.shape_of-words-in-Some
+shape_of-words-in-Some c = search calling
 
-pub returns-in-At : goal.returns-in-At
-returns-in-At c = search calling
+pub returns-in-Some : goal.returns-in-Some
+returns-in-Some c = search calling
 
-pub shape_of-words-in-Nowhere : goal.shape_of-words-in-Nowhere
-shape_of-words-in-Nowhere c = search calling
+pub shape_of-words-in-None : goal.shape_of-words-in-None
+shape_of-words-in-None c = search calling
 
-pub returns-in-Nowhere : goal.returns-in-Nowhere
-returns-in-Nowhere c = search calling
+pub returns-in-None : goal.returns-in-None
+returns-in-None c = search calling

@@ -12,8 +12,8 @@ enum_known-z c = search calling
 pub enum_told-1 : goal.enum_told-1
 enum_told-1 c = search calling
 
-pub returns-in-Whole : goal.returns-in-Whole
-returns-in-Whole c = tick_whole c.args.x _ _ (search rules) c.to_tick.ensures c.in-Whole.is
+pub returns-in-Some : goal.returns-in-Some
+returns-in-Some c = tick_whole c.args.x _ _ (search rules) c.to_tick.ensures c.in-Some.is
 
-pub returns-in-Refused : goal.returns-in-Refused
-returns-in-Refused c = search calling
+pub returns-in-None : goal.returns-in-None
+returns-in-None c = search calling

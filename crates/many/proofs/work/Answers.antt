@@ -10,19 +10,19 @@ pub interior-requires : goal.interior-requires
 interior-requires c = count_fit c.requires
 
 pub prepare-plan-requires : goal.prepare-plan-requires
-prepare-plan-requires c = prepare_asked c.requires _ c.distances-walked.ensures.sealed_is c.in-Nowhere.is c.distances-walked.new.room c.distances-walked.auto.room
+prepare-plan-requires c = prepare_asked c.requires _ c.distances-walked.ensures.sealed_is c.in-None.is c.distances-walked.new.room c.distances-walked.auto.room
 
 pub all_sets-requires : goal.all_sets-requires
 all_sets-requires c = record {
-  cast_ready = cast_ready c.requires _ c.distances-walked.ensures.sealed_is c.in-Nowhere.is _ _ c.interior.ensures c.distances-walked.ensures.depth_is _ _ _ c.prepare-plan.ensures;
+  cast_ready = cast_ready c.requires _ c.distances-walked.ensures.sealed_is c.in-None.is _ _ c.interior.ensures c.distances-walked.ensures.depth_is _ _ _ c.prepare-plan.ensures;
   sets_asked = c.requires.sets_asked;
 }
 
-pub returns-in-At : goal.returns-in-At
-returns-in-At c = search (rules, worked_refused)
+pub returns-in-Some : goal.returns-in-Some
+returns-in-Some c = search (rules, worked_refused)
 
-pub shape_of-words-in-Nowhere : goal.shape_of-words-in-Nowhere
-shape_of-words-in-Nowhere c = c.prepare-plan.auto.words ∙ c.distances-walked.auto.room
+pub shape_of-words-in-None : goal.shape_of-words-in-None
+shape_of-words-in-None c = c.prepare-plan.auto.words ∙ c.distances-walked.auto.room
 
-pub returns-in-Nowhere : goal.returns-in-Nowhere
-returns-in-Nowhere c = worked_sets _ _ _ _ _ _ _ _ _ c.distances-walked.ensures.sealed_is _ _ c.in-Nowhere.is c.refusal-in-Nowhere.ensures c.all_sets.ensures
+pub returns-in-None : goal.returns-in-None
+returns-in-None c = worked_sets _ _ _ _ _ _ _ _ _ c.distances-walked.ensures.sealed_is _ _ c.in-None.is c.refusal-in-None.ensures c.all_sets.ensures

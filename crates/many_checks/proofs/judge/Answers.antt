@@ -1,21 +1,12 @@
-use Rattle.many_checks.proofs.ManyJudging.{many_judging}
-use borrow.Author.Rules.{rules}
+-- `many_checks::judge` meets its contract: what check 1 and 2 leave known. Assumes nothing.
+use Rattle.many_checks.proofs.ManyJudging.{sides_known, labels_known}
 use Rattle.many_checks.proofs.judge.Goals as goal
 
 pub cell_count-n-requires : goal.cell_count-n-requires
-cell_count-n-requires c = search many_judging
+cell_count-n-requires c = sides_known c.judge_sides.ensures c.in_ok-judge_sides.was
 
-pub judge_content-requires : goal.judge_content-requires
-judge_content-requires c = record {
-  fit = search many_judging;
-  n_value = (search rules, (search rules, search many_judging));
-}
+pub judge_content-requires-clause-fit : goal.judge_content-requires-clause-fit
+judge_content-requires-clause-fit c = sides_known c.judge_sides.ensures c.in_ok-judge_sides.was
 
-pub returns-then-lengths_fit : goal.returns-then-lengths_fit
-returns-then-lengths_fit c = search many_judging
-
-pub returns-then-sides_fit : goal.returns-then-sides_fit
-returns-then-sides_fit c = search many_judging
-
-pub returns : goal.returns
-returns c = search many_judging
+pub judge_content-requires-clause-n_value : goal.judge_content-requires-clause-n_value
+judge_content-requires-clause-n_value c = (c.cell_count-n.ensures.0, (c.cell_count-n.ensures.1, labels_known _ _ _ _ _ c.lengths_fit.ensures c.if-not-lengths_fit.false))

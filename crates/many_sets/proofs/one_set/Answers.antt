@@ -8,8 +8,8 @@ bad_value-requires c = value_asked c.requires.cast_ready c.args.values.now c.req
 pub run-requires : goal.run-requires
 run-requires c = ready_run c.requires.cast_ready _ _ c.requires.values_len.0 c.requires.values_len.1
 
-pub returns-in-At : goal.returns-in-At
-returns-in-At c = search (rules, set_refused)
+pub returns-in-Some : goal.returns-in-Some
+returns-in-Some c = set_refused _ _ _ _ _ _ _ _ c.bad_value.ensures c.requires.cast_ready.past.labelled _ _ c.in-Some.is c.from.ensures
 
-pub returns-in-Nowhere : goal.returns-in-Nowhere
-returns-in-Nowhere c = search (rules, set_run)
+pub returns-in-None : goal.returns-in-None
+returns-in-None c = search (rules, set_run)

@@ -2,53 +2,26 @@
 use Rattle.old_header.proofs.OldHeaderLaws.{sizes}
 use Rattle.old_header.proofs.size_line.Goals as goal
 
-pub number_to-requires : goal.number_to-requires
-number_to-requires c = search sizes
-
-pub enum_known-nx : goal.enum_known-nx
-enum_known-nx c = search sizes
-
-pub enum_told-1 : goal.enum_told-1
-enum_told-1 c = search sizes
-
-pub returns-in_default : goal.returns-in_default
-returns-in_default c = search sizes
+pub returns-in_err-nx : goal.returns-in_err-nx
+returns-in_err-nx c = rw c.from_residual.ensures (search (sizes, c.in_err-nx.was))
 
 pub rest-second-requires : goal.rest-second-requires
-rest-second-requires c = search sizes
+rest-second-requires c = search (sizes, c.in_ok-nx.was)
 
-pub number_to-requires-2 : goal.number_to-requires-2
-number_to-requires-2 c = search sizes
-
-pub enum_known-ny : goal.enum_known-ny
-enum_known-ny c = search sizes
-
-pub enum_told-in_default-number_to : goal.enum_told-in_default-number_to
-enum_told-in_default-number_to c = search sizes
-
-pub returns-in_default-number_to : goal.returns-in_default-number_to
-returns-in_default-number_to c = search sizes
+pub returns-in_err-ny : goal.returns-in_err-ny
+returns-in_err-ny c = rw c.from_residual-in_err-ny.ensures (search (sizes, c.in_ok-nx.was, c.in_err-ny.was))
 
 pub rest-third-requires : goal.rest-third-requires
-rest-third-requires c = search sizes
+rest-third-requires c = search (sizes, c.in_ok-nx.was, c.in_ok-ny.was)
 
-pub number_to-requires-3 : goal.number_to-requires-3
-number_to-requires-3 c = search sizes
-
-pub enum_known-nz : goal.enum_known-nz
-enum_known-nz c = search sizes
-
-pub enum_told-in_default-number_to-2 : goal.enum_told-in_default-number_to-2
-enum_told-in_default-number_to-2 c = search sizes
-
-pub returns-in_default-number_to-2 : goal.returns-in_default-number_to-2
-returns-in_default-number_to-2 c = search sizes
+pub returns-in_err-nz : goal.returns-in_err-nz
+returns-in_err-nz c = rw c.from_residual-in_err-nz.ensures (search (sizes, c.in_ok-nx.was, c.in_ok-ny.was, c.in_err-nz.was))
 
 pub overflow_add-result : goal.overflow_add-result
-overflow_add-result c = search sizes
+overflow_add-result c = search (sizes, c.in_ok-nx.was, c.in_ok-ny.was)
 
 pub overflow_add-result-2 : goal.overflow_add-result-2
-overflow_add-result-2 c = search sizes
+overflow_add-result-2 c = search (sizes, c.in_ok-nx.was, c.in_ok-ny.was, c.in_ok-nz.was)
 
 pub returns : goal.returns
-returns c = search sizes
+returns c = search (sizes, c.in_ok-nx.was, c.in_ok-ny.was, c.in_ok-nz.was)

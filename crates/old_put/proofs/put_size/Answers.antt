@@ -2,26 +2,21 @@
 use Rattle.old_put.proofs.PartLaws.{sizes}
 use Rattle.old_put.proofs.put_size.Goals as goal
 
-pub overflow_cast-sides : goal.overflow_cast-sides
-overflow_cast-sides c = search sizes
-
-pub put_number-second-requires : goal.put_number-second-requires
-put_number-second-requires c = search sizes
-
-pub overflow_cast-sides-2 : goal.overflow_cast-sides-2
-overflow_cast-sides-2 c = search sizes
-
-pub put_number-third-requires : goal.put_number-third-requires
-put_number-third-requires c = search sizes
-
-pub overflow_cast-sides-3 : goal.overflow_cast-sides-3
-overflow_cast-sides-3 c = search sizes
-
 pub put_number-requires : goal.put_number-requires
-put_number-requires c = search sizes
+put_number-requires c = rw c.from.ensures (search sizes)
 
-pub shape_of-output : goal.shape_of-output
-shape_of-output c = search sizes
+pub put_number-requires-2 : goal.put_number-requires-2
+put_number-requires-2 c = let p = rw c.from.ensures at c.put_number.ensures in rw c.from-2.ensures (search sizes)
+
+pub put_number-requires-3 : goal.put_number-requires-3
+put_number-requires-3 c =
+    let p = rw c.from.ensures at c.put_number.ensures in
+    let q = rw c.from-2.ensures at c.put_number-2.ensures in
+    rw c.from-3.ensures (search sizes)
 
 pub returns : goal.returns
-returns c = search sizes
+returns c =
+    let p = rw c.from.ensures at c.put_number.ensures in
+    let q = rw c.from-2.ensures at c.put_number-2.ensures in
+    let r = rw c.from-3.ensures at c.put_number-3.ensures in
+    search sizes

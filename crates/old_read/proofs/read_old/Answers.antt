@@ -2,9 +2,6 @@
 use Rattle.old_read.proofs.ReadLaws.{readers}
 use Rattle.old_read.proofs.read_old.Goals as goal
 
-pub judge_old-judged-requires : goal.judge_old-judged-requires
-judge_old-judged-requires c = search readers
-
 pub taken_of-taken-requires : goal.taken_of-taken-requires
 taken_of-taken-requires c = search readers
 
@@ -13,9 +10,6 @@ rest-body-requires c = search readers
 
 pub store_values-requires : goal.store_values-requires
 store_values-requires c = search readers
-
-pub shape_of-values : goal.shape_of-values
-shape_of-values c = search readers
 
 pub returns : goal.returns
 returns c = search readers

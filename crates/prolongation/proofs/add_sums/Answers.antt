@@ -5,20 +5,5 @@ use Rattle.prolongation.proofs.add_sums.Goals as goal
 pub loop-c-init : goal.loop-c-init
 loop-c-init c = search ups
 
-pub add_sum-requires : goal.add_sum-requires
-add_sum-requires c = search ups
-
-pub overflow_add-c : goal.overflow_add-c
-overflow_add-c c = search ups
-
-pub loop-c-smaller : goal.loop-c-smaller
-loop-c-smaller c = search ups
-
 pub loop-c-preserved : goal.loop-c-preserved
 loop-c-preserved c = search ups
-
-pub shape_of-room : goal.shape_of-room
-shape_of-room c = search ups
-
-pub returns : goal.returns
-returns c = search ups

@@ -1,13 +1,7 @@
 -- `prolongation::add_sums` meets its contract: after c turns the first c cells are corrected. Assumes nothing.
-use Prim.Native.Nat.{◌≤◌, ◌-◌}
-use mathlib.Core.Path.{◌≡◌}
-use lib.ListN.{length}
 use Rattle.laws.proofs.Loops.{Up}
 use Rattle.transfer.specs.Rows.{plus_step}
 use Rattle.prolongation.proofs.add_sums.Given as goal
 
 abbrev pub invariant-loop-c : goal.invariant-loop-c
-invariant-loop-c l = (l.c ≤ length l.labels) × (length l.room ≡ length l.initial.room) × Up (plus_step l.labels) l.initial.room l.c l.room
-
-abbrev pub decreases-loop-c : goal.decreases-loop-c
-decreases-loop-c l = length l.labels - l.c
+invariant-loop-c l = Up (plus_step l.labels) l.initial.room l.c l.room

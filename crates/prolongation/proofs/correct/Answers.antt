@@ -5,11 +5,5 @@ use Rattle.prolongation.proofs.correct.Goals as goal
 pub sum_rows-requires : goal.sum_rows-requires
 sum_rows-requires c = search ends
 
-pub add_sums-requires : goal.add_sums-requires
-add_sums-requires c = search ends
-
-pub shape_of-room : goal.shape_of-room
-shape_of-room c = search ends
-
 pub returns : goal.returns
 returns c = search ends

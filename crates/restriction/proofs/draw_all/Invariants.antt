@@ -1,13 +1,7 @@
 -- `restriction::draw_all` meets its contract: after r turns the first r fine rows are added. Assumes nothing.
-use Prim.Native.Nat.{◌-◌, ◌≤◌}
-use mathlib.Core.Path.{◌≡◌}
-use lib.ListN.{length}
 use Rattle.laws.proofs.Loops.{Up}
 use Rattle.transfer.specs.Rows.{fine_step}
 use Rattle.restriction.proofs.draw_all.Given as goal
 
 abbrev pub invariant-loop-r : goal.invariant-loop-r
-invariant-loop-r l = (l.r ≤ 16) × (length l.room ≡ length l.initial.room) × Up (fine_step l.g l.from l.o l.m l.y l.z) l.initial.room l.r l.room
-
-abbrev pub decreases-loop-r : goal.decreases-loop-r
-decreases-loop-r l = 16 - l.r
+invariant-loop-r l = Up (fine_step l.g l.from l.o l.m l.y l.z) l.initial.room l.r l.room

@@ -5,17 +5,8 @@ use Rattle.restriction.proofs.restrict.Goals as goal
 pub sum_rows-requires : goal.sum_rows-requires
 sum_rows-requires c = search ends
 
-pub overflow_mul-n : goal.overflow_mul-n
-overflow_mul-n c = search ends
-
-pub overflow_add-n : goal.overflow_add-n
-overflow_add-n c = search ends
-
 pub end_sums-requires : goal.end_sums-requires
 end_sums-requires c = search ends
-
-pub shape_of-room : goal.shape_of-room
-shape_of-room c = search ends
 
 pub returns : goal.returns
 returns c = search ends

@@ -29,21 +29,21 @@ offset_bounds-values-j c =
 pub plus-requires : goal.plus-requires
 plus-requires c =
     let v : ℤ = field c.args.values.now c.args.j in
-    let f : SFits w32 v = record { sfits = c.wide-arg-1.given } in
-    let e : c.wide.result ≡ v = search sides in
+    let f : SFits w32 v = record { sfits = c.from-arg-1.given } in
+    let e : c.from.result ≡ v = search sides in
     let b = abs_32 v f in
-    let k : nat_abs c.wide.result ≤ 2 ^ 31 = omega (arith, ap nat_abs e) in
-    let h : nat_abs c.args.sum + nat_abs c.wide.result < 2 ^ 63 = omega arith in
+    let k : nat_abs c.from.result ≤ 2 ^ 31 = omega (arith, ap nat_abs e) in
+    let h : nat_abs c.args.sum + nat_abs c.from.result < 2 ^ 63 = omega arith in
     search sides
 
 pub returns-then-opening : goal.returns-then-opening
 returns-then-opening c =
     let v : ℤ = field c.args.values.now c.args.j in
-    let g : SFits w32 v = record { sfits = c.wide-arg-1.given } in
-    let e : c.wide.result ≡ v = search sides in
+    let g : SFits w32 v = record { sfits = c.from-arg-1.given } in
+    let e : c.from.result ≡ v = search sides in
     let b = abs_32 v g in
-    let k : nat_abs c.wide.result ≤ 2 ^ 31 = omega (arith, ap nat_abs e) in
-    let p : c.plus.result ≡ c.args.sum +ᶻ c.wide.result = search sides in
+    let k : nat_abs c.from.result ≤ 2 ^ 31 = omega (arith, ap nat_abs e) in
+    let p : c.plus.result ≡ c.args.sum +ᶻ c.from.result = search sides in
     let q : c.plus.result ≡ c.args.sum +ᶻ v = p ∙ ap (◌+ᶻ◌ c.args.sum) e in
     let f : SFits w64 c.plus.result = record { sfits = c.plus.type_inv } in
     rw (to_z-of_z f)

@@ -14,37 +14,19 @@ use Rattle.right_side.proofs.whole_at.Goals as goal
 pub neighbours-around-requires : goal.neighbours-around-requires
 neighbours-around-requires c = search sides
 
-pub offset_bounds-values-c : goal.offset_bounds-values-c
-offset_bounds-values-c c = search sides
-
-pub bounds-values-c : goal.bounds-values-c
-bounds-values-c c = search sides
-
-pub wide-b-requires : goal.wide-b-requires
-wide-b-requires c = search sides
+pub from-b-requires : goal.from-b-requires
+from-b-requires c = search sides
 
 pub loop-i-init : goal.loop-i-init
 loop-i-init c =
     let v : ℤ = field c.args.values.now c.args.c in
-    let f : SFits w32 v = record { sfits = c.wide-arg-1.given } in
-    let e : c.wide-b.result ≡ v = search sides in
-    let h : nat_abs c.wide-b.result ≤ 2 ^ 31 = omega (arith, ap nat_abs e, abs_32 v f) in
+    let f : SFits w32 v = record { sfits = c.from-arg-1.given } in
+    let e : c.from-b.result ≡ v = search sides in
+    let h : nat_abs c.from-b.result ≤ 2 ^ 31 = omega (arith, ap nat_abs e, abs_32 v f) in
     search sides
-
-pub offset_bounds-around-i : goal.offset_bounds-around-i
-offset_bounds-around-i c = search sides
-
-pub bounds-around-i : goal.bounds-around-i
-bounds-around-i c = search sides
 
 pub level_at-b-requires : goal.level_at-b-requires
 level_at-b-requires c = search sides
-
-pub overflow_add-i : goal.overflow_add-i
-overflow_add-i c = search sides
-
-pub loop-i-smaller : goal.loop-i-smaller
-loop-i-smaller c = search sides
 
 pub loop-i-preserved : goal.loop-i-preserved
 loop-i-preserved c = search sides
@@ -53,7 +35,7 @@ pub returns : goal.returns
 returns c =
     let l = c.loop-i in
     let v : ℤ = field c.args.values.now c.args.c in
-    let f : SFits w32 v = record { sfits = c.wide-arg-1.given } in
-    let k : SFits w64 c.wide-b.result = record { sfits = c.wide-b.type_inv } in
-    let e : to_z w64 (of_z w64 c.wide-b.result) ≡ v = to_z-of_z k ∙ gives_wide v c.wide-b.result f c.wide-b.ensures in
-    gathering_end c.args.g c.args.c l.i (to_z w64 (of_z w64 c.wide-b.result)) (to_z w64 l.b-bits) c.neighbours-around.ensures e l.invariant.1 l.invariant.0 (omega arith)
+    let f : SFits w32 v = record { sfits = c.from-arg-1.given } in
+    let k : SFits w64 c.from-b.result = record { sfits = c.from-b.type_inv } in
+    let e : to_z w64 (of_z w64 c.from-b.result) ≡ v = to_z-of_z k ∙ gives_wide v c.from-b.result f c.from-b.ensures in
+    gathering_end c.args.g c.args.c l.i (to_z w64 (of_z w64 c.from-b.result)) (to_z w64 l.b-bits) c.neighbours-around.ensures e l.invariant (omega arith) (omega arith)

@@ -33,14 +33,14 @@ scalars_of-q-requires c = record {
 pub step_of-requires : goal.step_of-requires
 step_of-requires c = search budget
 
-pub enum_told-in-Stalled : goal.enum_told-in-Stalled
-enum_told-in-Stalled c = search budget
+pub enum_told-in-Err : goal.enum_told-in-Err
+enum_told-in-Err c = search budget
 
-pub shape_of-room-in-Stalled : goal.shape_of-room-in-Stalled
-shape_of-room-in-Stalled c = c.scalars_of-q.auto.room ∙ c.loop-done.invariant.1.0
+pub shape_of-room-in-Err : goal.shape_of-room-in-Err
+shape_of-room-in-Err c = c.scalars_of-q.auto.room ∙ c.loop-done.invariant.1.0
 
-pub returns-in-Stalled : goal.returns-in-Stalled
-returns-in-Stalled c = left_stall _ _ _ _ _ _ _ _ c.loop-done.invariant.1.1.1 _ c.test_x.ensures _ _ _ _ c.requires.ready c.loop-done-test.true c.in-Failed.is _ _ c.scalars_of-q.ensures _ c.step_of.ensures _ _ c.in-Stalled.is refl
+pub returns-in-Err : goal.returns-in-Err
+returns-in-Err c = left_stall _ _ _ _ _ _ _ _ c.loop-done.invariant.1.1.1 _ c.test_x.ensures _ _ _ _ c.requires.ready c.loop-done-test.true c.in-Failed.is _ _ c.scalars_of-q.ensures _ c.step_of.ensures _ _ c.in-Err.is refl
 
 pub enum_known-alpha : goal.enum_known-alpha
 enum_known-alpha c = search budget
@@ -48,7 +48,7 @@ enum_known-alpha c = search budget
 pub move_on-requires : goal.move_on-requires
 move_on-requires c = record {
   held = held_ready c.requires.ready _ (c.scalars_of-q.auto.room ∙ c.loop-done.invariant.1.0);
-  alpha_value = go_finite _ _ _ c.step_of.ensures c.in-Go.is;
+  alpha_value = go_finite _ _ _ c.step_of.ensures c.in-Ok.is;
   calm = scaled_calm c.scalars_of-q.ensures c.loop-done.invariant.1.1.0;
   quiet = scaled_t c.scalars_of-q.ensures;
 }
@@ -60,7 +60,7 @@ pub loop-done-smaller : goal.loop-done-smaller
 loop-done-smaller c = search budget
 
 pub loop-done-preserved : goal.loop-done-preserved
-loop-done-preserved c = (search rules, (c.move_on.auto.room ∙ c.scalars_of-q.auto.room ∙ c.loop-done.invariant.1.0, (advanced_calm (scaled_calm c.scalars_of-q.ensures c.loop-done.invariant.1.1.0) c.move_on.ensures, left_more _ _ _ _ _ _ _ _ c.loop-done.invariant.1.1.1 _ c.test_x.ensures _ _ _ _ c.requires.ready c.loop-done-test.true c.in-Failed.is _ _ c.scalars_of-q.ensures _ c.step_of.ensures _ _ c.in-Go.is c.move_on.ensures)))
+loop-done-preserved c = (search rules, (c.move_on.auto.room ∙ c.scalars_of-q.auto.room ∙ c.loop-done.invariant.1.0, (advanced_calm (scaled_calm c.scalars_of-q.ensures c.loop-done.invariant.1.1.0) c.move_on.ensures, left_more _ _ _ _ _ _ _ _ c.loop-done.invariant.1.1.1 _ c.test_x.ensures _ _ _ _ c.requires.ready c.loop-done-test.true c.in-Failed.is _ _ c.scalars_of-q.ensures _ c.step_of.ensures _ _ c.in-Ok.is c.move_on.ensures)))
 
 pub test_x-requires-2 : goal.test_x-requires-2
 test_x-requires-2 c = search budget

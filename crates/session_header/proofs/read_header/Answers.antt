@@ -1,21 +1,12 @@
 -- `session_header::read_header` meets its contract: the sides, then the rest. Assumes nothing.
-use Rattle.session_header.proofs.HeaderLaws.{headers}
+use Rattle.session_header.proofs.HeaderLaws.{headers, left_by}
 use Rattle.session_header.proofs.read_header.Goals as goal
 
-pub three_lines-requires : goal.three_lines-requires
-three_lines-requires c = search headers
-
-pub enum_known-k : goal.enum_known-k
-enum_known-k c = search headers
-
-pub enum_known-nx : goal.enum_known-nx
-enum_known-nx c = search headers
+pub returns-in_err-three : goal.returns-in_err-three
+returns-in_err-three c = rw (left_by _ _ c.from_residual.ensures.1) (search (headers, c.in_err-three.was))
 
 pub after_sides-requires : goal.after_sides-requires
-after_sides-requires c = search headers
+after_sides-requires c = search (headers, c.in_ok-three.was)
 
-pub returns-in-Wrong : goal.returns-in-Wrong
-returns-in-Wrong c = search headers
-
-pub returns-in-Values : goal.returns-in-Values
-returns-in-Values c = search headers
+pub returns : goal.returns
+returns c = search (headers, c.in_ok-three.was)

@@ -4,9 +4,6 @@ use Rattle.theory.specs.Sessions.{Bytes}
 use Rattle.session_read.proofs.ReadLaws.{readers}
 use Rattle.session_read.proofs.read_after.Goals as goal
 
-pub judge_session-judged-requires : goal.judge_session-judged-requires
-judge_session-judged-requires c = search readers
-
 pub taken_of-taken-requires : goal.taken_of-taken-requires
 taken_of-taken-requires c = search readers
 
@@ -15,9 +12,6 @@ rest-body-requires c = search readers
 
 pub store_values-requires : goal.store_values-requires
 store_values-requires c = search readers
-
-pub shape_of-values : goal.shape_of-values
-shape_of-values c = search readers
 
 pub returns : goal.returns
 returns c =

@@ -2,23 +2,11 @@
 use Rattle.session_read.proofs.ReadLaws.{taking}
 use Rattle.session_read.proofs.taken_of.Goals as goal
 
-pub enum_known-judged : goal.enum_known-judged
-enum_known-judged c = search taking
-
-pub refusal-answer-requires : goal.refusal-answer-requires
-refusal-answer-requires c = search taking
-
-pub enum_known-judged-in-Passed-1 : goal.enum_known-judged-in-Passed-1
-enum_known-judged-in-Passed-1 c = search taking
-
-pub refusal-answer-requires-in-Passed : goal.refusal-answer-requires-in-Passed
-refusal-answer-requires-in-Passed c = search taking
-
 pub cell_count-count-requires : goal.cell_count-count-requires
 cell_count-count-requires c = search taking
 
-pub returns-in-Refused : goal.returns-in-Refused
-returns-in-Refused c = search taking
+pub returns-in-Err : goal.returns-in-Err
+returns-in-Err c = search taking
 
-pub returns-in-Passed : goal.returns-in-Passed
-returns-in-Passed c = search taking
+pub returns-in-Ok : goal.returns-in-Ok
+returns-in-Ok c = search taking

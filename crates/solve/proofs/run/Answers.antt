@@ -8,12 +8,12 @@ pub write_ticks-requires : goal.write_ticks-requires
 write_ticks-requires c = search running
 
 pub worst_of-at-requires : goal.worst_of-at-requires
-worst_of-at-requires c = sought _ _ _ _ _ _ c.run.ensures _ _ c.in-Accepted.is (labelled_run c.requires) (tolerance_run c.requires) (asked_x c.requires _ (search rules))
+worst_of-at-requires c = sought _ _ _ _ _ _ c.run.ensures _ c.in-Ok.is (labelled_run c.requires) (tolerance_run c.requires) (asked_x c.requires _ (search rules))
 
-pub returns-in-Accepted : goal.returns-in-Accepted
-returns-in-Accepted c =
-    ran_accepted _ _ _ _ _ _ c.run.ensures _ _ c.in-Accepted.is (labelled_run c.requires) _ _ _ _ _ c.requires.of_cast
+pub returns-in-Ok : goal.returns-in-Ok
+returns-in-Ok c =
+    ran_accepted _ _ _ _ _ _ c.run.ensures _ c.in-Ok.is (labelled_run c.requires) _ _ _ _ _ c.requires.of_cast
     c.write_ticks.ensures c.worst_of-at.ensures c.accepted.ensures
 
-pub returns-in-Unfinished : goal.returns-in-Unfinished
-returns-in-Unfinished c = search (ran_unfinished)
+pub returns-in-Err : goal.returns-in-Err
+returns-in-Err c = ran_unfinished _ _ _ _ _ _ c.run.ensures _ _ _ _ c.in-Err.is c.requires.of_cast c.number.ensures c.rounds.ensures c.unfinished.ensures

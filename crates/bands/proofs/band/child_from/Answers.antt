@@ -2,17 +2,11 @@
 use Rattle.bands.proofs.Blocks.{blocks}
 use Rattle.bands.proofs.band.child_from.Goals as goal
 
-pub child_step-requires : goal.child_step-requires
-child_step-requires c = search blocks
-
 pub overflow_add-result : goal.overflow_add-result
 overflow_add-result c = search blocks
 
 pub returns-then-first-n : goal.returns-then-first-n
 returns-then-first-n c = search blocks
-
-pub child-requires : goal.child-requires
-child-requires c = search blocks
 
 pub returns : goal.returns
 returns c = search blocks

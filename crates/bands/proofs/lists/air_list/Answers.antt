@@ -23,8 +23,5 @@ overflow_add-result c =
     let a = c.args in
     omega (arith, air_count a.band a.g a.labels.now a.at _ a.words.now _ c.requires.labels_in_bounds c.wave_list-swept.ensures _ _ c.left_list-rest.ensures)
 
-pub shape_of-words : goal.shape_of-words
-shape_of-words c = search airs
-
 pub returns : goal.returns
 returns c = search airs

@@ -2,26 +2,11 @@
 use Rattle.bands.proofs.Chosen.{lefts}
 use Rattle.bands.proofs.lists.is_left.Goals as goal
 
-pub label_at-label-requires : goal.label_at-label-requires
-label_at-label-requires c = search lefts
-
 pub returns-then-label-ne0 : goal.returns-then-label-ne0
 returns-then-label-ne0 c = search lefts
 
-pub halved_of-h-requires : goal.halved_of-h-requires
-halved_of-h-requires c = search lefts
-
-pub cell_count-n-requires : goal.cell_count-n-requires
-cell_count-n-requires c = search lefts
-
-pub cell_count-m-requires : goal.cell_count-m-requires
-cell_count-m-requires c = search lefts
-
-pub in_band-requires : goal.in_band-requires
-in_band-requires c = search lefts
-
-pub returns-then-in_band : goal.returns-then-in_band
-returns-then-in_band c = search lefts
+pub returns-then-is_in_band : goal.returns-then-is_in_band
+returns-then-is_in_band c = search lefts
 
 pub returns-then-band : goal.returns-then-band
 returns-then-band c = search lefts

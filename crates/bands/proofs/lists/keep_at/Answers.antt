@@ -2,29 +2,17 @@
 use Rattle.bands.proofs.Chosen.{on_waves}
 use Rattle.bands.proofs.lists.keep_at.Goals as goal
 
-pub overflow_add-near : goal.overflow_add-near
-overflow_add-near c = search on_waves
-
 pub returns-then-w-near : goal.returns-then-w-near
 returns-then-w-near c = search on_waves
 
-pub overflow_cast-g : goal.overflow_cast-g
-overflow_cast-g c = search on_waves
-
 pub returns-then-g-i : goal.returns-then-g-i
 returns-then-g-i c = search on_waves
-
-pub number_of-c-requires : goal.number_of-c-requires
-number_of-c-requires c = search on_waves
 
 pub keep_cell-requires : goal.keep_cell-requires
 keep_cell-requires c = record {
   fit = search on_waves;
   c_bound = (search on_waves, search on_waves);
 }
-
-pub shape_of-words : goal.shape_of-words
-shape_of-words c = search on_waves
 
 pub returns : goal.returns
 returns c = search on_waves

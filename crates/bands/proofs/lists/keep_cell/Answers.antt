@@ -1,36 +1,9 @@
 -- `bands::lists::keep_cell` meets its contract. Assumes nothing.
-use Rattle.bands.proofs.Chosen.{keeps_either}
+use Rattle.bands.proofs.Chosen.{keeps}
 use Rattle.bands.proofs.lists.keep_cell.Goals as goal
 
-pub cell_count-n-requires : goal.cell_count-n-requires
-cell_count-n-requires c = search keeps_either
-
-pub halved_of-h-requires : goal.halved_of-h-requires
-halved_of-h-requires c = search keeps_either
-
-pub cell_count-m-requires : goal.cell_count-m-requires
-cell_count-m-requires c = search keeps_either
-
-pub keep_band-requires : goal.keep_band-requires
-keep_band-requires c = record {
-  band_asked = search keeps_either;
-  c_in_bounds = search keeps_either;
+pub keep-requires : goal.keep-requires
+keep-requires c = record {
+  fit = search keeps;
+  c_bound = (search keeps, search keeps);
 }
-
-pub keep_air-requires : goal.keep_air-requires
-keep_air-requires c = record {
-  fit = search keeps_either;
-  n_value = search keeps_either;
-}
-
-pub shape_of-words-then-band : goal.shape_of-words-then-band
-shape_of-words-then-band c = search keeps_either
-
-pub returns-then-band : goal.returns-then-band
-returns-then-band c = search keeps_either
-
-pub shape_of-words-else-band : goal.shape_of-words-else-band
-shape_of-words-else-band c = search keeps_either
-
-pub returns-else-band : goal.returns-else-band
-returns-else-band c = search keeps_either

@@ -2,9 +2,6 @@
 use Rattle.bands.proofs.Chosen.{on_waves}
 use Rattle.bands.proofs.lists.keep_line.Goals as goal
 
-pub overflow_cast-n : goal.overflow_cast-n
-overflow_cast-n c = search on_waves
-
 pub loop-j-init : goal.loop-j-init
 loop-j-init c = search on_waves
 
@@ -15,17 +12,5 @@ keep_at-next-requires c = record {
   j_in_bounds = search on_waves;
 }
 
-pub overflow_add-j : goal.overflow_add-j
-overflow_add-j c = search on_waves
-
-pub loop-j-smaller : goal.loop-j-smaller
-loop-j-smaller c = search on_waves
-
 pub loop-j-preserved : goal.loop-j-preserved
 loop-j-preserved c = search on_waves
-
-pub shape_of-words : goal.shape_of-words
-shape_of-words c = search on_waves
-
-pub returns : goal.returns
-returns c = search on_waves

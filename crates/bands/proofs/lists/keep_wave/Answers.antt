@@ -2,9 +2,6 @@
 use Rattle.bands.proofs.Chosen.{on_waves}
 use Rattle.bands.proofs.lists.keep_wave.Goals as goal
 
-pub overflow_cast-n : goal.overflow_cast-n
-overflow_cast-n c = search on_waves
-
 pub loop-k-init : goal.loop-k-init
 loop-k-init c = search on_waves
 
@@ -15,17 +12,5 @@ keep_line-next-requires c = record {
   k_in_bounds = search on_waves;
 }
 
-pub overflow_add-k : goal.overflow_add-k
-overflow_add-k c = search on_waves
-
-pub loop-k-smaller : goal.loop-k-smaller
-loop-k-smaller c = search on_waves
-
 pub loop-k-preserved : goal.loop-k-preserved
 loop-k-preserved c = search on_waves
-
-pub shape_of-words : goal.shape_of-words
-shape_of-words c = search on_waves
-
-pub returns : goal.returns
-returns c = search on_waves

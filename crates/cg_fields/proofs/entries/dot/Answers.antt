@@ -8,28 +8,10 @@ pub loop-c-init : goal.loop-c-init
 unfolding lib.Ieee.of_bits
 loop-c-init c = search ups
 
-pub offset_bounds-a-c : goal.offset_bounds-a-c
-offset_bounds-a-c c = search ups
-
-pub bounds-a-c : goal.bounds-a-c
-bounds-a-c c = search ups
-
-pub offset_bounds-b-c : goal.offset_bounds-b-c
-offset_bounds-b-c c = search ups
-
-pub bounds-b-c : goal.bounds-b-c
-bounds-b-c c = search ups
-
-pub overflow_add-c : goal.overflow_add-c
-overflow_add-c c = search ups
-
-pub loop-c-smaller : goal.loop-c-smaller
-loop-c-smaller c = search ups
-
 pub loop-c-preserved : goal.loop-c-preserved
 loop-c-preserved c =
     let a = c.args in
-    (search ups, dot_more a.a.now a.b.now c.loop-c.c c.loop-c.sum c.loop-c.invariant.1)
+    dot_more a.a.now a.b.now c.loop-c.c c.loop-c.sum c.loop-c.invariant
 
 pub returns : goal.returns
-returns c = dot_quiet c.loop-c.invariant.1 (omega arith) (omega arith)
+returns c = dot_quiet c.loop-c.invariant (omega arith) (omega arith)

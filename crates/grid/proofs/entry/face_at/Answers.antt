@@ -2,12 +2,6 @@
 use Rattle.grid.proofs.EntryParts.{faces}
 use Rattle.grid.proofs.entry.face_at.Goals as goal
 
-pub label_at-l-requires : goal.label_at-l-requires
-label_at-l-requires c = search faces
-
-pub overflow_add-result : goal.overflow_add-result
-overflow_add-result c = search faces
-
 pub returns-then-l-eq0 : goal.returns-then-l-eq0
 returns-then-l-eq0 c = record {
   value = search faces;

@@ -1,20 +1,11 @@
 use Rattle.grid.proofs.Counts.{counts}
 use Rattle.grid.proofs.interior.interior.Goals as goal
 
-pub cell_count-n-requires : goal.cell_count-n-requires
-cell_count-n-requires c = search counts
-
 pub loop-c-init : goal.loop-c-init
 loop-c-init c = search counts
 
 pub count_at-k-requires : goal.count_at-k-requires
 count_at-k-requires c = search counts
-
-pub overflow_add-c : goal.overflow_add-c
-overflow_add-c c = search counts
-
-pub loop-c-smaller : goal.loop-c-smaller
-loop-c-smaller c = search counts
 
 pub loop-c-preserved : goal.loop-c-preserved
 loop-c-preserved c = search counts

@@ -2,9 +2,6 @@
 use Rattle.grid.proofs.Steps.{steps}
 use Rattle.grid.proofs.near.label_at.Goals as goal
 
-pub bounds-labels-j : goal.bounds-labels-j
-bounds-labels-j c = search steps
-
 pub returns-then-j-labels : goal.returns-then-j-labels
 returns-then-j-labels c = search steps
 

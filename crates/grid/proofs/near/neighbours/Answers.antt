@@ -2,14 +2,8 @@
 use Rattle.grid.proofs.Steps.{steps}
 use Rattle.grid.proofs.near.neighbours.Goals as goal
 
-pub overflow_mul-plane : goal.overflow_mul-plane
-overflow_mul-plane c = search steps
-
 pub step_on-north-requires : goal.step_on-north-requires
 step_on-north-requires c = search steps
-
-pub step_back-below-requires : goal.step_back-below-requires
-step_back-below-requires c = search steps
 
 pub step_on-above-requires : goal.step_on-above-requires
 step_on-above-requires c = search steps

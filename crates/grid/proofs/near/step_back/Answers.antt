@@ -2,15 +2,6 @@
 use Rattle.grid.proofs.Steps.{steps}
 use Rattle.grid.proofs.near.step_back.Goals as goal
 
-pub nonzero_div-c : goal.nonzero_div-c
-nonzero_div-c c = search steps
-
-pub nonzero_rem-c : goal.nonzero_rem-c
-nonzero_rem-c c = search steps
-
-pub overflow_sub-result : goal.overflow_sub-result
-overflow_sub-result c = search steps
-
 pub returns-then-c-stride-gt0 : goal.returns-then-c-stride-gt0
 returns-then-c-stride-gt0 c = search steps
 

@@ -11,12 +11,6 @@ loop-t-init c = search ranks
 pub label_step-label-requires : goal.label_step-label-requires
 label_step-label-requires c = search ranks
 
-pub overflow_add-t : goal.overflow_add-t
-overflow_add-t c = search ranks
-
-pub loop-t-smaller : goal.loop-t-smaller
-loop-t-smaller c = search ranks
-
 pub loop-t-preserved : goal.loop-t-preserved
 loop-t-preserved c = search ranks
 

@@ -1,21 +1,19 @@
--- `levels::sides::levels_of` meets its contract: after k turns k levels are written down. Assumes nothing.
-use Rattle.levels.proofs.Starts.{fills}
+-- `levels::sides::levels_of` meets its contract: the levels below level-index are written down, and next is level level-index. Assumes
+-- nothing.
+use Rattle.levels.proofs.Starts.{fillings}
 use Rattle.levels.proofs.sides.levels_of.Goals as goal
 
-pub loop-k-init : goal.loop-k-init
-loop-k-init c = search fills
+pub loop-level-init : goal.loop-level-init
+loop-level-init c = search fillings
 
-pub fill_at-f-requires : goal.fill_at-f-requires
-fill_at-f-requires c = search fills
+pub level_after-next-requires-clause-fit : goal.level_after-next-requires-clause-fit
+level_after-next-requires-clause-fit c = search fillings
 
-pub overflow_add-k : goal.overflow_add-k
-overflow_add-k c = search fills
+pub level_after-next-requires-clause-start_bound : goal.level_after-next-requires-clause-start_bound
+level_after-next-requires-clause-start_bound c = search fillings
 
-pub loop-k-smaller : goal.loop-k-smaller
-loop-k-smaller c = search fills
-
-pub loop-k-preserved : goal.loop-k-preserved
-loop-k-preserved c = search fills
+pub loop-level-preserved : goal.loop-level-preserved
+loop-level-preserved c = search fillings
 
 pub returns : goal.returns
-returns c = search fills
+returns c = search fillings

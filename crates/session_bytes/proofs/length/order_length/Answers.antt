@@ -2,12 +2,6 @@
 use Rattle.session_bytes.proofs.LengthLaws.{lengths}
 use Rattle.session_bytes.proofs.length.order_length.Goals as goal
 
-pub enum_told-1 : goal.enum_told-1
-enum_told-1 c = search lengths
-
-pub enum_told-in-Little : goal.enum_told-in-Little
-enum_told-in-Little c = search lengths
-
 pub returns-in-Big : goal.returns-in-Big
 returns-in-Big c = search lengths
 

@@ -2,8 +2,5 @@
 use Rattle.session_header.proofs.LineLaws.{lines}
 use Rattle.session_header.proofs.line.number_line.Goals as goal
 
-pub number_to-requires : goal.number_to-requires
-number_to-requires c = search lines
-
 pub returns : goal.returns
 returns c = search lines

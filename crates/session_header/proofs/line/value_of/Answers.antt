@@ -2,20 +2,11 @@
 use Rattle.session_header.proofs.LineLaws.{numbers}
 use Rattle.session_header.proofs.line.value_of.Goals as goal
 
-pub loop-i-init : goal.loop-i-init
-loop-i-init c = search numbers
-
 pub bounds-bytes-i : goal.bounds-bytes-i
 bounds-bytes-i c = search numbers
 
 pub with_digit-v-requires : goal.with_digit-v-requires
 with_digit-v-requires c = search numbers
-
-pub overflow_add-i : goal.overflow_add-i
-overflow_add-i c = search numbers
-
-pub loop-i-smaller : goal.loop-i-smaller
-loop-i-smaller c = search numbers
 
 pub loop-i-preserved : goal.loop-i-preserved
 loop-i-preserved c = search numbers

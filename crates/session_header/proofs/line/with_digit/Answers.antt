@@ -2,5 +2,5 @@
 use Rattle.session_header.proofs.LineLaws.{digit_range}
 use Rattle.session_header.proofs.line.with_digit.Goals as goal
 
-pub overflow_sub-result : goal.overflow_sub-result
-overflow_sub-result c = (digit_range c.args.b c.requires.1).0
+pub overflow_sub-b : goal.overflow_sub-b
+overflow_sub-b c = (digit_range c.args.b c.requires.1).0

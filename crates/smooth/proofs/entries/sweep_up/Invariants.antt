@@ -1,14 +1,9 @@
 -- `smooth::entries::sweep_up` meets its contract: after k turns the room is k turns on. Assumes nothing.
-use Prim.Native.Nat.{◌≤◌, ◌-◌}
 use mathlib.Core.Path.{◌≡◌}
-use lib.ListN.{length}
 use Rattle.laws.specs.Binary64.{+0}
 use Rattle.method.specs.Transfers.{value}
 use Rattle.smooth.proofs.EntryLaws.{Rising}
 use Rattle.smooth.proofs.entries.sweep_up.Given as goal
 
-abbrev pub invariant-loop-k : goal.invariant-loop-k
-invariant-loop-k l = (l.k ≤ length l.list) × (length l.room ≡ length l.initial.room) × (value l.room l.zero ≡ +0) × Rising l.n l.nx l.plane l.list l.initial.room l.k l.room
-
-abbrev pub decreases-loop-k : goal.decreases-loop-k
-decreases-loop-k l = length l.list - l.k
+abbrev pub invariant-loop-e : goal.invariant-loop-e
+invariant-loop-e l = (value l.room l.lattice.zero ≡ +0) × Rising l.lattice.n l.lattice.nx l.lattice.plane l.list l.initial.room l.e-index l.room

@@ -1,7 +1,6 @@
 -- `smooth::stencils::residual_list` meets its contract: after k turns the room is k stores on. Assumes nothing.
-use Prim.Native.Nat.{◌≤◌, ◌-◌, ◌*◌}
+use Prim.Native.Nat.{◌*◌}
 use mathlib.Core.Path.{◌≡◌}
-use lib.ListN.{length}
 use Rattle.laws.specs.Binary64.{+0}
 use Rattle.method.specs.Transfers.{value}
 use Rattle.smooth.specs.Entries.{Entry}
@@ -9,8 +8,5 @@ use Rattle.smooth.specs.Stencils.{residue_new}
 use Rattle.smooth.proofs.StencilLaws.{Wrote}
 use Rattle.smooth.proofs.stencils.residual_list.Given as goal
 
-abbrev pub invariant-loop-k : goal.invariant-loop-k
-invariant-loop-k l = (l.k ≤ length l.list) × (length l.room ≡ length l.initial.room) × (value l.room l.zero ≡ +0) × Wrote (λ g ls e. Entry g ls l.n l.nx l.plane e) (2 * l.n) residue_new l.list l.initial.room l.k l.room
-
-abbrev pub decreases-loop-k : goal.decreases-loop-k
-decreases-loop-k l = length l.list - l.k
+abbrev pub invariant-loop-e : goal.invariant-loop-e
+invariant-loop-e l = (value l.room l.lattice.zero ≡ +0) × Wrote (λ g ls e. Entry g ls l.lattice.n l.lattice.nx l.lattice.plane e) (2 * l.lattice.n) residue_new l.list l.initial.room l.e-index l.room

@@ -1,9 +1,6 @@
--- `tick::whole_back` meets its contract. Assumes nothing.
-use Rattle.ticks.proofs.TickWhole.{wholes, held_none}
+-- `tick::whole_back` meets its contract: the tick's number, or 0. Assumes nothing.
+use Rattle.ticks.proofs.TickWhole.{back_is}
 use Rattle.ticks.proofs.tick.whole_back.Goals as goal
 
-pub returns-in-Whole : goal.returns-in-Whole
-returns-in-Whole c = search wholes
-
-pub returns-in-Refused : goal.returns-in-Refused
-returns-in-Refused c = search (held_none)
+pub returns : goal.returns
+returns c = back_is c.args.x _ _ (record { sfits = c.unwrap_or.type_inv }) c.to_tick.ensures c.unwrap_or.ensures

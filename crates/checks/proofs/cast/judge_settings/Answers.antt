@@ -1,7 +1,0 @@
--- `checks::cast::judge_settings` meets its contract: check 3 as a ruling. Assumes nothing.
-use borrow.Author.Rules.{rules}
-use Rattle.checks.proofs.CheckLaws.{ruled_unless}
-use Rattle.checks.proofs.cast.judge_settings.Goals as goal
-
-pub returns : goal.returns
-returns c = search (rules, ruled_unless)

@@ -1,6 +1,0 @@
--- `prolongation::give_odd` meets its contract: by the contract of its sum. Assumes nothing.
-use Rattle.transfer.proofs.RowLaws.{rows}
-use Rattle.prolongation.proofs.give_odd.Goals as goal
-
-pub returns : goal.returns
-returns c = search rows
