@@ -14,7 +14,7 @@ use answer_old_session::respond_old;
 use answer_session::Lent;
 use input_front::front_of;
 use method::Settings;
-use session_header::{HeaderRead, read_header};
+use session_header::read_header;
 use std::env::Env;
 use std::io;
 use std::io::{Read, Write};
@@ -84,10 +84,10 @@ fn main(rt: HostRuntime) -> io::Result<()> {
     let mut lines = [0u8; 95];
     let n = rt.arg(1, &mut lines).unwrap_or(0);
     match read_header(&lines[..n]) {
-        HeaderRead::Wrong(_) => rt
+        Err(_) => rt
             .stderr()
             .write_all(b"the argument is no header of a session\n"),
-        HeaderRead::Named(h) => run::<_, _, BUFFER, LIMIT, BYTES, FLOATS, WORDS, PRINT>(
+        Ok(h) => run::<_, _, BUFFER, LIMIT, BYTES, FLOATS, WORDS, PRINT>(
             &mut rt.stdin(),
             &mut rt.stdout(),
             h.settings,

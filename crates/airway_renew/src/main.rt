@@ -13,7 +13,7 @@ use answer_print::show;
 use input_front::front_of;
 use method::{Answer, Order, Settings};
 use renew::renew;
-use session_header::{HeaderRead, read_header};
+use session_header::read_header;
 use session_write::Written;
 use std::env::Env;
 use std::io;
@@ -78,10 +78,10 @@ fn main(rt: HostRuntime) -> io::Result<()> {
     let mut lines = [0u8; 95];
     let n = rt.arg(1, &mut lines).unwrap_or(0);
     match read_header(&lines[..n]) {
-        HeaderRead::Wrong(_) => rt
+        Err(_) => rt
             .stderr()
             .write_all(b"the argument is no header of a session\n"),
-        HeaderRead::Named(h) => run::<_, _, _, BUFFER, LIMIT, SESSION>(
+        Ok(h) => run::<_, _, _, BUFFER, LIMIT, SESSION>(
             &mut rt.stdin(),
             &mut rt.stdout(),
             &mut rt.stderr(),

@@ -16,7 +16,7 @@ use answers::refusal;
 use checks::cast::sides_fit;
 use grid::place::cell_count;
 use method::{Settings, Sides};
-use session_header::{HeaderRead, read_header};
+use session_header::{Header, read_header};
 use session_read::Session;
 
 // What the solver is lent: a pressure for each cell, and its rooms. All of it is scratch, and may be longer than needed.
@@ -39,15 +39,12 @@ fn past(sides: Sides, limit: usize) -> bool
 }
 
 // The same of the sides that a header names.
-fn too_many(read: HeaderRead, limit: usize) -> bool
+fn too_many(read: Result<Header, u32>, limit: usize) -> bool
     ensures { result ≡ crowded_by limit read }
 {
     match read {
-        HeaderRead::Wrong(_) => false,
-        HeaderRead::Named(h) => {
-            let sides = h.sides;
-            past(sides, limit)
-        }
+        Err(_) => false,
+        Ok(h) => past(h.sides, limit),
     }
 }
 
@@ -112,7 +109,7 @@ fn solve_read(
 // A session that does not name too many cells is read, and solved where the reader does not refuse it.
 fn answered(
     input: &[u8],
-    header: HeaderRead,
+    header: Result<Header, u32>,
     limit: usize,
     values: &mut [i32],
     lent: Lent<'_>,
