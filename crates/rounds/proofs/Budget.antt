@@ -235,10 +235,18 @@ same_ends (Stalled r) (LimitReached s) e f = absurd (omega (arith, e))
 
 one_by : (a b : Result Passed Halt) (ps qs : List ℤ) → end_of a ps ≡ end_of b qs → (a ≡ b) × ((p : Passed) → a ≡ Ok p → ps ≡ qs)
 unfolding end_of
-one_by (Ok p) (Ok q) ps qs h = (ap₂ (λ n w. Ok (record { rounds = n; worst = w })) cc cc, λ i e. cc)
+one_by (Ok p) (Ok q) ps qs h =
+    let r : p.rounds ≡ q.rounds = cc in
+    let w : p.worst ≡ q.worst = cc in
+    let same : ◌≡◌ {A = Result Passed Halt} (Ok p) (Ok q) = ap₂ (λ (n m : ℕ). Ok (record { rounds = n; worst = m })) r w in
+    (same, λ i e. cc)
 one_by (Ok p) (Err m) ps qs h = absurd (not_both h)
 one_by (Err m) (Ok p) ps qs h = absurd (not_both (sym h))
-one_by (Err m) (Err n) ps qs h = (ap Err (same_ends m n cc cc), λ i e. cc)
+one_by (Err m) (Err n) ps qs h =
+    let k : number_of_end m ≡ number_of_end n = cc in
+    let r : rounds_of_end m ≡ rounds_of_end n = cc in
+    let same : ◌≡◌ {A = Result Passed Halt} (Err m) (Err n) = ap Err (same_ends m n k r) in
+    (same, λ i e. cc)
 
 pub end_one : (g : Sides) (ls : List ℕ) (vs : List ℤ) (t : Settings) (a b : Result Passed Halt) (s u : List Float) → EndOf g ls vs t a s → EndOf g ls vs t b u
     → (a ≡ b) × ((p : Passed) → a ≡ Ok p → rounded (cast_of g ls vs) (x_of (cells g) s) ≡ rounded (cast_of g ls vs) (x_of (cells g) u))

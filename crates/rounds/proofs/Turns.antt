@@ -30,7 +30,7 @@ use Rattle.cycle.specs.Rooms.{Ready, Cycled, fields_from, air_from, AirAt}
 use Rattle.cycle.proofs.Laws.{part_first, lent_is, home_is, end_lent}
 use Rattle.cycle.proofs.Calls.{ready_first, first_air_asked, first_air, fields_most, zero_end, zero_part}
 use Rattle.rounds.specs.declared.Plan.{Plan}
-use Rattle.acceptance.specs.declared.Tested.{Tested}
+use Rattle.std.specs.Prelude.{Option}
 use Rattle.acceptance.specs.Trial.{tested}
 use Rattle.cg_fields.specs.Entries.{Aimed}
 use Rattle.cg_fields.specs.Fields.{Held, x_of, p_of, r_of, t_of}
@@ -90,7 +90,7 @@ inner_done g ls e a b v z qa qb f =
     let k : b + length ls - b ≡ cells g = omega (arith, z.labelled) in
     inner_is g ls e a b v z.labelled (f g ls z.labelled (rw m qa) (rw k qb))
 
-pub test_is : (g : Sides) (ls : List ℕ) (k : Cast) (t : Settings) (e : List Float) (v : Tested) → length ls ≡ cells g
+pub test_is : (g : Sides) (ls : List ℕ) (k : Cast) (t : Settings) (e : List Float) (v : Option ℕ) → length ls ≡ cells g
     → v ≡ tested k t (take (0 * length ls + length ls - 0 * length ls) (drop (0 * length ls) e)) → v ≡ tested k t (x_of (cells g) e)
 test_is g ls k t e v h q =
     let m : 0 * length ls + length ls - 0 * length ls ≡ cells g = omega arith in

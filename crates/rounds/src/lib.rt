@@ -27,13 +27,7 @@ pub struct Plan {
 }
 
 // The test of x as it stands in the room: on its rounded ticks, not on r.
-fn test_x(
-    room: &[f64],
-    labels: &[u8],
-    values: &[i32],
-    g: Sides,
-    settings: Settings,
-) -> Option<u32>
+fn test_x(room: &[f64], labels: &[u8], values: &[i32], g: Sides, settings: Settings) -> Option<u32>
     requires { Held g labels.now room.now × ((length values.now ≡ cells g) × (settings.tolerance ≤ 1000000)) }
     ensures { result ≡ tested (cast_of g labels.now values.now) settings (x_of (cells g) room.now) }
 {

@@ -14,6 +14,7 @@ use method::{Scalars, Sides};
 use smooth::Lattice;
 
 // Whether a number is finite and above 0.
+#[tactic(auto, unfolding(method::specs::Rounds::usable, method::specs::Rounds::finite))]
 fn is_usable(x: f64) -> bool
     ensures { result ≡ usable x }
 {
@@ -21,6 +22,7 @@ fn is_usable(x: f64) -> bool
 }
 
 // Alpha, or the first scalar that stalls the round: rho and sigma must be finite and above 0, alpha finite.
+#[tactic(auto, unfolding(method::specs::Rounds::step))]
 pub(crate) fn step_of(q: Scalars) -> Result<f64, f64>
     ensures { result ≡ step q }
 {
