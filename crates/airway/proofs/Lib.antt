@@ -1,2 +1,2 @@
--- Laws that the proof of `main` cites.
+-- What the promise of `answer_input`, at the program's own limit, says by document 01.
 pub mod Laws

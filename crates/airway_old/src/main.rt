@@ -5,15 +5,16 @@
 // no more are read.
 #![tactic(auto)]
 
-ghost use Rattle.std.specs.Prelude.{◌≡◌, ◌≤◌, length, take};
+ghost use Rattle.std.specs.Prelude.{◌≡◌, ◌+◌, ◌^◌, ◌<◌, length};
 ghost use Rattle.prints.specs.Prints.{large_room, old_buffer};
-ghost use Rattle.answer_session.specs.Responds.{Roomy};
+ghost use Rattle.answer_session.specs.Responds.{Roomy, RoomFor};
 ghost use Rattle.answer_old_session.specs.OldResponds.{OldProgramOf};
 
 use answer_old_session::respond_old;
-use input_front::read_front;
+use answer_session::Lent;
+use input_front::front_of;
 use method::Settings;
-use session_header::{HeaderRead, read_header};
+use session_header::read_header;
 use std::env::Env;
 use std::io;
 use std::io::{Read, Write};
@@ -23,108 +24,73 @@ const LIMIT: usize = 32768;
 
 const BUFFER: usize = 3 * LIMIT + 43;
 
+const BYTES: usize = 2 * LIMIT + 16;
+
+const FLOATS: usize = 8 * LIMIT + 64;
+
+const WORDS: usize = 2 * LIMIT;
+
 const PRINT: usize = 26 * LIMIT + 160;
 
-// The answer to the session whose front was read into the buffer is put at the front of the output, and its length
-// comes back.
+// The answer to the session whose front is handed in is put at the front of the output, and its length comes back.
 fn answer(
     settings: Settings,
-    buffer: &[u8],
-    got: usize,
+    front: &[u8],
     values: &mut [i32],
-    pressures: &mut [i64],
-    bytes: &mut [u8],
-    floats: &mut [f64],
-    words: &mut [u32],
+    lent: Lent<'_>,
     output: &mut [u8],
 ) -> usize
-    requires buffer_len { (length buffer.now ≡ old_buffer) × ((got ≤ length buffer.now) × (length values.old ≡ large_room)) }
-    requires roomy { Roomy large_room (length values.old) (length pressures.old) (length bytes.old) (length floats.old) (length words.old) (length output.old) }
-    ensures { OldProgramOf settings (take got buffer.now) output.old output.new result }
+    requires values_len { length values.old ≡ large_room }
+    requires roomy { RoomFor large_room (length values.old) lent (length output.old) }
+    ensures { OldProgramOf settings front.now output.old output.new result }
 {
-    respond_old(
-        settings,
-        &buffer[..got],
-        values,
-        pressures,
-        bytes,
-        floats,
-        words,
-        output,
-    )
+    respond_old(settings, front, values, lent, output)
 }
 
-// A session is read from an input, and its answer written to an output.
-fn run<R: Read, W: Write>(
-    from: &mut R,
-    to: &mut W,
-    settings: Settings,
-    input: &mut [u8],
-    values: &mut [i32],
-    pressures: &mut [i64],
-    bytes: &mut [u8],
-    floats: &mut [f64],
-    words: &mut [u32],
-    output: &mut [u8],
-) -> io::Result<()>
-    requires input_len { (length input.old ≡ old_buffer) × (length values.old ≡ large_room) }
-    requires roomy { Roomy large_room (length values.old) (length pressures.old) (length bytes.old) (length floats.old) (length words.old) (length output.old) }
+// A session is read from an input, and its answer written to an output, in arrays of its own.
+fn run<
+    R: Read,
+    W: Write,
+    const BUFFER: usize,
+    const CELLS: usize,
+    const BYTES: usize,
+    const FLOATS: usize,
+    const WORDS: usize,
+    const PRINT: usize,
+>(from: &mut R, to: &mut W, settings: Settings) -> io::Result<()>
+    requires input_len { (BUFFER ≡ old_buffer) × (CELLS ≡ large_room) }
+    requires roomy { Roomy large_room CELLS CELLS BYTES FLOATS WORDS PRINT }
+    requires addressable { BUFFER + CELLS + BYTES + FLOATS + WORDS + PRINT < 2 ^ 32 }
 {
-    let got = read_front(from, input);
-    let count = answer(
-        settings, input, got, values, pressures, bytes, floats, words, output,
-    );
-    to.write_all(&output[..count])
-}
-
-// The same, in a buffer and rooms for 32,768 cells by their types.
-fn run_large<R: Read, W: Write>(
-    from: &mut R,
-    to: &mut W,
-    settings: Settings,
-    input: &mut [u8; BUFFER],
-    values: &mut [i32; LIMIT],
-    pressures: &mut [i64; LIMIT],
-    bytes: &mut [u8; 2 * LIMIT + 16],
-    floats: &mut [f64; 8 * LIMIT + 64],
-    words: &mut [u32; 2 * LIMIT],
-    output: &mut [u8; PRINT],
-) -> io::Result<()> {
-    run(
-        from, to, settings, input, values, pressures, bytes, floats, words, output,
-    )
-}
-
-// The same, in arrays of its own.
-fn start<R: Read, W: Write>(from: &mut R, to: &mut W, settings: Settings) -> io::Result<()> {
-    let mut input = [0u8; BUFFER];
-    let mut values = [0i32; LIMIT];
-    let mut pressures = [0i64; LIMIT];
-    let mut bytes = [0u8; 2 * LIMIT + 16];
-    let mut floats = [0.0f64; 8 * LIMIT + 64];
-    let mut words = [0u32; 2 * LIMIT];
+    let mut buffer = [0u8; BUFFER];
+    let mut values = [0i32; CELLS];
+    let mut pressures = [0i64; CELLS];
+    let mut bytes = [0u8; BYTES];
+    let mut floats = [0.0f64; FLOATS];
+    let mut words = [0u32; WORDS];
     let mut output = [0u8; PRINT];
-    run_large(
-        from,
-        to,
-        settings,
-        &mut input,
-        &mut values,
-        &mut pressures,
-        &mut bytes,
-        &mut floats,
-        &mut words,
-        &mut output,
-    )
+    let front = front_of(from, &mut buffer);
+    let lent = Lent {
+        pressures: &mut pressures,
+        bytes: &mut bytes,
+        floats: &mut floats,
+        words: &mut words,
+    };
+    let count = answer(settings, front, &mut values, lent, &mut output);
+    to.write_all(&output[..count])
 }
 
 fn main(rt: HostRuntime) -> io::Result<()> {
     let mut lines = [0u8; 95];
     let n = rt.arg(1, &mut lines).unwrap_or(0);
     match read_header(&lines[..n]) {
-        HeaderRead::Wrong(_) => rt
+        Err(_) => rt
             .stderr()
             .write_all(b"the argument is no header of a session\n"),
-        HeaderRead::Named(h) => start(&mut rt.stdin(), &mut rt.stdout(), h.settings),
+        Ok(h) => run::<_, _, BUFFER, LIMIT, BYTES, FLOATS, WORDS, PRINT>(
+            &mut rt.stdin(),
+            &mut rt.stdout(),
+            h.settings,
+        ),
     }
 }

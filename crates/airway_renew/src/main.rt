@@ -5,15 +5,15 @@
 // crates/prints), so no more are read.
 #![tactic(auto)]
 
-ghost use Rattle.std.specs.Prelude.{◌≡◌, ◌≤◌, length, take};
+ghost use Rattle.std.specs.Prelude.{◌≡◌, ◌+◌, ◌^◌, ◌<◌, ◌≤◌, length};
 ghost use Rattle.prints.specs.Prints.{buffer_for, large_room, old_buffer};
 ghost use Rattle.renew.specs.Renews.{RenewProgramOf};
 
 use answer_print::show;
-use input_front::read_front;
+use input_front::front_of;
 use method::{Answer, Order, Settings};
 use renew::renew;
-use session_header::{HeaderRead, read_header};
+use session_header::read_header;
 use session_write::Written;
 use std::env::Env;
 use std::io;
@@ -26,45 +26,46 @@ const BUFFER: usize = 3 * LIMIT + 43;
 
 const SESSION: usize = 5 * LIMIT + 95;
 
-// The session whose front was read into the buffer is put in the new form at the front of the output; its answer and
-// its length come back.
+// The session whose front is handed in is put in the new form at the front of the output; its answer and its length
+// come back.
 fn answer(
     order: Order,
     settings: Settings,
-    buffer: &[u8],
-    got: usize,
+    front: &[u8],
     values: &mut [i32],
     output: &mut [u8],
 ) -> Written
-    requires { (length buffer.now ≡ old_buffer) × ((got ≤ length buffer.now) × ((length values.old ≡ large_room) × (buffer_for large_room ≤ length output.old))) }
-    ensures { RenewProgramOf order settings (take got buffer.now) output.old result output.new }
+    requires { (length values.old ≡ large_room) × (buffer_for large_room ≤ length output.old) }
+    ensures { RenewProgramOf order settings front.now output.old result output.new }
 {
-    renew(order, settings, &buffer[..got], values, output)
+    renew(order, settings, front, values, output)
 }
 
 // The lines of a refusal are written, to standard error as it is called.
 fn refuse<E: Write>(errors: &mut E, found: Answer) -> io::Result<()> {
     let mut text = [0u8; 160];
-    let none = [0i64; 1];
-    let n = show(found, &none[..0], &mut text);
+    let n = show(found, &[], &mut text);
     errors.write_all(&text[..n])
 }
 
-// A session is read from an input, and written in the new form to an output, or the lines of its refusal to errors.
-fn run<R: Read, W: Write, E: Write>(
+// A session is read from an input, and written in the new form to an output, or the lines of its refusal to errors, in
+// arrays of its own.
+fn run<R: Read, W: Write, E: Write, const BUFFER: usize, const CELLS: usize, const SESSION: usize>(
     from: &mut R,
     to: &mut W,
     errors: &mut E,
     order: Order,
     settings: Settings,
-    input: &mut [u8],
-    values: &mut [i32],
-    output: &mut [u8],
 ) -> io::Result<()>
-    requires { (length input.old ≡ old_buffer) × ((length values.old ≡ large_room) × (buffer_for large_room ≤ length output.old)) }
+    requires input_len { (BUFFER ≡ old_buffer) × (CELLS ≡ large_room) }
+    requires session_len { buffer_for large_room ≤ SESSION }
+    requires addressable { BUFFER + CELLS + SESSION < 2 ^ 32 }
 {
-    let got = read_front(from, input);
-    let written = answer(order, settings, input, got, values, output);
+    let mut buffer = [0u8; BUFFER];
+    let mut values = [0i32; CELLS];
+    let mut output = [0u8; SESSION];
+    let front = front_of(from, &mut buffer);
+    let written = answer(order, settings, front, &mut values, &mut output);
     let found = written.answer;
     let count = written.count;
     if found.number == 0 {
@@ -73,51 +74,14 @@ fn run<R: Read, W: Write, E: Write>(
     refuse(errors, found)
 }
 
-// The same, in a buffer and rooms for 32,768 cells by their types.
-fn run_large<R: Read, W: Write, E: Write>(
-    from: &mut R,
-    to: &mut W,
-    errors: &mut E,
-    order: Order,
-    settings: Settings,
-    input: &mut [u8; BUFFER],
-    values: &mut [i32; LIMIT],
-    output: &mut [u8; SESSION],
-) -> io::Result<()> {
-    run(from, to, errors, order, settings, input, values, output)
-}
-
-// The same, in arrays of its own.
-fn start<R: Read, W: Write, E: Write>(
-    from: &mut R,
-    to: &mut W,
-    errors: &mut E,
-    order: Order,
-    settings: Settings,
-) -> io::Result<()> {
-    let mut input = [0u8; BUFFER];
-    let mut values = [0i32; LIMIT];
-    let mut output = [0u8; SESSION];
-    run_large(
-        from,
-        to,
-        errors,
-        order,
-        settings,
-        &mut input,
-        &mut values,
-        &mut output,
-    )
-}
-
 fn main(rt: HostRuntime) -> io::Result<()> {
     let mut lines = [0u8; 95];
     let n = rt.arg(1, &mut lines).unwrap_or(0);
     match read_header(&lines[..n]) {
-        HeaderRead::Wrong(_) => rt
+        Err(_) => rt
             .stderr()
             .write_all(b"the argument is no header of a session\n"),
-        HeaderRead::Named(h) => start(
+        Ok(h) => run::<_, _, _, BUFFER, LIMIT, SESSION>(
             &mut rt.stdin(),
             &mut rt.stdout(),
             &mut rt.stderr(),

@@ -36,7 +36,7 @@ use Rattle.solve.specs.Solve.{asked}
 use Rattle.prints.proofs.Rooms.{print_other, rooms_alike}
 use Rattle.prints.proofs.OldFronts.{old_printed_refused, old_printed_passed}
 use Rattle.answer_session.specs.Responds.{Roomy}
-use Rattle.answer_session.proofs.RespondLaws.{no_room, lengths_true, byte_more, float_more, word_more, cast_eq}
+use Rattle.answer_session.proofs.RespondLaws.{lengths_true, byte_more, float_more, word_more, cast_eq}
 use Rattle.answer_old_session.specs.OldResponds.{OldIsRead}
 
 -- what is put, by another name and with a greater bound
@@ -82,14 +82,7 @@ module _ (t : Settings) (bs : List ℕ) (old new : List ℤ) (s : OldSession) (z
             ∙ take_at (old_values_in (old_header bs)) (drop (cells (old_header bs).sides) old) (cells (old_header bs).sides) (values_long bs);
       }
 
--- the reader keeps the number of values, and so the room that there is
-pub kept_roomy : {a b pressures bytes floats words output : ℕ} → a ≡ b → Roomy b b pressures bytes floats words output → Roomy a a pressures bytes floats words output
-kept_roomy e r = rw e r
-
-pub kept_put : (t : Settings) (bs : List ℕ) {a b : ℕ} {w u : List ℕ} {j : ℕ} → a ≡ b → PutShort (print_room a) (old_printed a t bs) w 0 u j → PutShort (print_room b) (old_printed b t bs) w 0 u j
-kept_put t bs e p = rw e at p
-
-pub ruleset answers = (rules, no_room, refused_put, read_passed, kept_roomy)
+pub ruleset answers = (rules, refused_put, read_passed)
 
 -- ---- what the checks say of it
 module _ (room : ℕ) (t : Settings) (bs : List ℕ) (v : verdict old_reader_checks (old_taken room t bs) ≡ passed) where

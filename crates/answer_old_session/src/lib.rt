@@ -5,11 +5,11 @@
 ghost use Rattle.std.specs.Prelude.{length};
 ghost use Rattle.method.specs.OldProgram.{old_printed};
 ghost use Rattle.answer_print.specs.Shows.{print_room, PutShort};
-ghost use Rattle.answer_session.specs.Responds.{Roomy};
+ghost use Rattle.answer_session.specs.Responds.{RoomFor};
 ghost use Rattle.answer_old_session.specs.OldResponds.{OldIsRead};
 
 use answer_print::show;
-use answer_session::solved;
+use answer_session::{Lent, solved};
 use grid::place::cell_count;
 use method::{Settings, Sides};
 use old_read::{old_labels, read_old};
@@ -20,18 +20,21 @@ fn solve_old(
     sides: Sides,
     settings: Settings,
     values: &[i32],
-    pressures: &mut [i64],
-    bytes: &mut [u8],
-    floats: &mut [f64],
-    words: &mut [u32],
+    lent: Lent<'_>,
     output: &mut [u8],
 ) -> usize
-    requires roomy { Roomy (length values.now) (length values.now) (length pressures.old) (length bytes.old) (length floats.old) (length words.old) (length output.old) }
+    requires roomy { RoomFor (length values.now) (length values.now) lent (length output.old) }
     requires old_is_read { OldIsRead settings input.now sides values.now }
     ensures { PutShort (print_room (length values.now)) (old_printed (length values.now) settings input.now) output.old 0 output.new result }
 {
     let n = cell_count(sides);
     let labels = old_labels(settings, input, values.len());
+    let Lent {
+        pressures,
+        bytes,
+        floats,
+        words,
+    } = lent;
     solved(
         sides,
         labels,
@@ -51,30 +54,17 @@ pub fn respond_old(
     settings: Settings,
     input: &[u8],
     values: &mut [i32],
-    pressures: &mut [i64],
-    bytes: &mut [u8],
-    floats: &mut [f64],
-    words: &mut [u32],
+    lent: Lent<'_>,
     output: &mut [u8],
 ) -> usize
-    requires { Roomy (length values.old) (length values.old) (length pressures.old) (length bytes.old) (length floats.old) (length words.old) (length output.old) }
+    requires { RoomFor (length values.old) (length values.old) lent (length output.old) }
     ensures { PutShort (print_room (length values.old)) (old_printed (length values.old) settings input.now) output.old 0 output.new result }
 {
     let read = read_old(settings, input, values);
     let answer = read.answer;
     if answer.number != 0 {
-        return show(answer, &pressures[..0], output);
+        return show(answer, &[], output);
     }
     let sides = read.sides;
-    solve_old(
-        input,
-        sides,
-        settings,
-        &values[..],
-        pressures,
-        bytes,
-        floats,
-        words,
-        output,
-    )
+    solve_old(input, sides, settings, &values[..], lent, output)
 }

@@ -3,7 +3,7 @@
 use mathlib.Core.Path.{◌≡◌, sym, ap, ap₂, ◌∙◌}
 use mathlib.Core.Bool.{Bool, true, false, ◌&&◌}
 use mathlib.Core.List.{List, []}
-use Prim.Native.Nat.{ℕ, ◌+◌, ◌-◌, ◌*◌, ◌^◌, ◌<◌, ◌≤◌}
+use Prim.Native.Nat.{ℕ, ◌+◌, ◌-◌, ◌*◌, ◌≤◌}
 use native.Mathlib.Omega.{arith}
 use borrow.Author.Rules.{rules}
 use borrow.Author.Tests.{eq-eqb, le-leb, ltb-false, eqb-true}
@@ -11,15 +11,13 @@ use lib.Dec.{ltb, eqb}
 use lib.IntN.{ℤ, pos}
 use lib.Ieee.{Float}
 use lib.ListN.{length, take, drop, replicate, length-replicate, length-drop}
-use mir.Syntax.{w64}
-use mir.Val.{Fits}
 use lib.Seq.{take_at, length-take-le}
+use Rattle.std.specs.Prelude.{Some, None, Result, Ok, Err}
 use Rattle.laws.specs.Binary64.{+0}
 use Rattle.laws.proofs.Lists.{length_tab}
 use Rattle.method.specs.declared.Answer.{Answer}
 use Rattle.method.specs.declared.Sides.{Sides}
 use Rattle.method.specs.declared.Settings.{Settings}
-use Rattle.method.specs.declared.Found.TheVariants.{Nowhere, At}
 use Rattle.method.specs.Cast.{Cast, between, cells, sides_fit}
 use Rattle.method.specs.Form.{header_of, header, labels_in, values_in, cast_in, value_read}
 use Rattle.method.specs.Answers.{passed, verdict, refusal, done}
@@ -34,8 +32,6 @@ use Rattle.theory.proofs.Verdicts.{Judged, fine, faulty, judge, AllPass, all_pas
 use Rattle.theory.proofs.RoundTrip.{read_0}
 use Rattle.session_header.specs.Lines.{HeaderOf, header_in, wrong_in, start_in}
 use Rattle.session_header.specs.declared.Header.{Header as Head}
-use Rattle.session_header.specs.declared.HeaderRead.{HeaderRead}
-use Rattle.session_header.specs.declared.HeaderRead.TheVariants.{Wrong, Named}
 use Rattle.answer_print.specs.Shows.{print_room, PutShort}
 use Rattle.session_read.specs.Reads.{ReadOf}
 use Rattle.session_read.specs.declared.Session.{Session}
@@ -59,19 +55,19 @@ past_unfit s limit w e t = rw (← e, t)
 
 pub ruleset sides = (rules, sides_known, past_fit, past_unfit)
 
-pub many_wrong : (limit k : ℕ) (r : HeaderRead) → r ≡ Wrong k → false ≡ crowded_by limit r
+pub many_wrong : (limit k : ℕ) (r : Result Head ℕ) → r ≡ Err k → false ≡ crowded_by limit r
 unfolding crowded_by
 many_wrong limit k r e = sym (ap (crowded_by limit) e)
 
-pub many_named : (limit : ℕ) (t : Bool) (x : Head) (r : HeaderRead) → r ≡ Named x → t ≡ (sides_fit x.sides && ltb limit (cells x.sides)) → t ≡ crowded_by limit r
+pub many_named : (limit : ℕ) (t : Bool) (x : Head) (r : Result Head ℕ) → r ≡ Ok x → t ≡ (sides_fit x.sides && ltb limit (cells x.sides)) → t ≡ crowded_by limit r
 unfolding crowded_by
 many_named limit t x r e q = q ∙ sym (ap (crowded_by limit) e)
 
 -- what a header was read to be says it of the bytes
-crowded_by_lem : (bs : List ℕ) (limit : ℕ) (r : HeaderRead) → HeaderOf bs r → crowded_by limit r ≡ crowded limit bs
+crowded_by_lem : (bs : List ℕ) (limit : ℕ) (r : Result Head ℕ) → HeaderOf bs r → crowded_by limit r ≡ crowded limit bs
 unfolding crowded_by crowded header_in header_of sides_fit between
-crowded_by_lem bs limit (Wrong k) h = sym (ap (λ y. sides_fit y.sides && ltb limit (cells y.sides)) h.is)
-crowded_by_lem bs limit (Named x) h = sym (ap (λ y. sides_fit y.sides && ltb limit (cells y.sides)) h.is)
+crowded_by_lem bs limit (Err k) h = sym (ap (λ y. sides_fit y.sides && ltb limit (cells y.sides)) h.is)
+crowded_by_lem bs limit (Ok x) h = sym (ap (λ y. sides_fit y.sides && ltb limit (cells y.sides)) h.is)
 
 pub ruleset heads = (rules, many_wrong, many_named)
 
@@ -91,19 +87,16 @@ as_printed : (limit : ℕ) (bs : List ℕ) (ps : List ℤ) (x w u : List ℕ) (j
 as_printed limit bs ps x w u j e l p = record { puts = rw e p.puts; short = omega (arith, p.short) }
 
 -- ---- too many cells, printed
-pub crowded_put : (bs : List ℕ) (limit : ℕ) (t : Bool) (x : HeaderRead) (a : Answer) (ps : List ℤ) (w u : List ℕ) (j : ℕ) → HeaderOf bs x → t ≡ crowded_by limit x → t ≡ true → a ≡ refusal 2 0
+pub crowded_put : (bs : List ℕ) (limit : ℕ) (t : Bool) (x : Result Head ℕ) (a : Answer) (ps : List ℤ) (w u : List ℕ) (j : ℕ) → HeaderOf bs x → t ≡ crowded_by limit x → t ≡ true → a ≡ refusal 2 0
     → length ps ≤ limit → PutShort (print_room (length ps)) (print a ps) w 0 u j → PutShort (print_room limit) (printed limit bs) w 0 u j
 unfolding refusal
 crowded_put bs limit t x a ps w u j h e q f l p =
     as_printed limit bs ps (print a ps) w u j (printed_refused limit bs 2 0 (too_many limit bs (sym (e ∙ crowded_by_lem bs limit x h) ∙ q)) ∙ print_other (refusal 2 0) [] ps (omega arith) ∙ ap (λ r. print r ps) (sym f)) l p
 
-pub not_crowded : (bs : List ℕ) (limit : ℕ) (t : Bool) (x : HeaderRead) → HeaderOf bs x → t ≡ crowded_by limit x → t ≡ false → crowded limit bs ≡ false
+pub not_crowded : (bs : List ℕ) (limit : ℕ) (t : Bool) (x : Result Head ℕ) → HeaderOf bs x → t ≡ crowded_by limit x → t ≡ false → crowded limit bs ≡ false
 not_crowded bs limit t x h e q = sym (e ∙ crowded_by_lem bs limit x h) ∙ q
 
-pub no_room : (limit m : ℕ) → print_room limit ≤ m → 160 ≤ m
-no_room limit m h = omega arith
-
-pub ruleset responses = (rules, crowded_put, not_crowded, no_room)
+pub ruleset responses = (rules, crowded_put, not_crowded)
 
 -- ---- a session that is read
 -- the lengths that the solver asks for
@@ -165,19 +158,19 @@ module _ (limit : ℕ) (bs : List ℕ) (old new : List ℤ) (s : Session) (z : R
             ∙ take_at (values_in (header bs)) (drop (cells (header bs).sides) old) (cells (header bs).sides) (values_long bs);
       }
 
-  pub read_labels : (x : HeaderRead) → HeaderOf bs x → s.answer.number ≡ 0 → LabelsAt bs s.sides s.start
+  pub read_labels : (x : Result Head ℕ) → HeaderOf bs x → s.answer.number ≡ 0 → LabelsAt bs s.sides s.start
   unfolding is_read reader_checks line_check side_check body_check header_in wrong_in start_in labels_in
   read_labels x h q =
       let v : verdict reader_checks lent ≡ passed = read_0 lent (ap (λ r. r.number) (sym z.answer) ∙ q) in
       let is : reading lent ≡ is_read lent = reading_passed lent v in
       go x h (all_pass reader_checks lent v) (z.sides ∙ ap (λ r. r.header.sides) is) (z.start ∙ ap (λ r. r.start) is)
     where
-      never : {k : ℕ} → At k ≡ Nowhere → ⊥
+      never : {k : ℕ} → Some k ≡ None → ⊥
       never p = let o : ◌≡◌ {A = ℕ} 0 1 = cc in omega arith
 
-      go : (x : HeaderRead) → HeaderOf bs x → AllPass reader_checks lent → s.sides ≡ (header bs).sides → s.start ≡ length bs - length (header bs).body → LabelsAt bs s.sides s.start
-      go (Wrong k) h ok g b = absurd (never (sym h.line ∙ ok.0))
-      go (Named y) h ok g b =
+      go : (x : Result Head ℕ) → HeaderOf bs x → AllPass reader_checks lent → s.sides ≡ (header bs).sides → s.start ≡ length bs - length (header bs).body → LabelsAt bs s.sides s.start
+      go (Err k) h ok g b = absurd (never (sym h.line ∙ ok.0))
+      go (Ok y) h ok g b =
           let long : length (header bs).body ≡ 5 * cells (header bs).sides = eqb-true _ _ (no_fault _ ok.1.1.0) in
           let body : (header bs).body ≡ drop y.start bs = ap (λ r. r.body) h.is in
           let left : length (header bs).body ≡ length bs - y.start = ap length body ∙ length-drop y.start bs in
@@ -187,7 +180,7 @@ module _ (limit : ℕ) (bs : List ℕ) (old new : List ℤ) (s : Session) (z : R
             are = ap₂ (λ n k. take n (drop k bs)) (ap cells g) here ∙ ap (take (cells (header bs).sides)) (sym body);
           }
 
-pub ruleset answers = (rules, no_room, refused_put, read_passed, read_labels)
+pub ruleset answers = (rules, refused_put, read_passed, read_labels)
 
 -- ---- and solved
 module _ (limit : ℕ) (bs : List ℕ) (s : Sides) (t : Settings) (vs : List ℤ) (z : IsRead limit bs s t vs) where
@@ -237,12 +230,6 @@ module _ (limit : ℕ) (bs : List ℕ) (s : Sides) (t : Settings) (vs : List ℤ
     solved_room = omega (arith, part_pressures, count_few, room.output_long)
 
     module _ (start : ℕ) (at : LabelsAt bs s start) where
-      pub part_fits : length bs < 2 ^ 64 → Fits w64 (start + n)
-      part_fits h = record { fits = omega (arith, c, at.within) }
-
-      pub part_within : start + n ≤ length bs
-      part_within = omega (arith, c, at.within)
-
       labels_are : take (start + n - start) (drop start bs) ≡ labels_in (header bs)
       labels_are = let m : start + n - start ≡ cells s = omega (arith, c) in ap (λ k. take k (drop start bs)) m ∙ at.are
 
@@ -282,4 +269,4 @@ module _ (limit : ℕ) (bs : List ℕ) (s : Sides) (t : Settings) (vs : List ℤ
       pub solved_is : (u : List ℕ) (j : ℕ) → PutShort (print_room (length (take n ps))) (shown (solving called)) out 0 u j → PutShort (print_room limit) (printed limit bs) out 0 u j
       solved_is u j p = as_printed limit bs (take n ps) (shown (solving called)) out u j (sym same_print) (omega (arith, part_pressures, count_few)) p
 
-pub ruleset parts = (rules, read_fit, in_values, part_values, in_pressures, part_pressures, solved_room, part_fits, part_within, solved_is)
+pub ruleset parts = (rules, read_fit, in_values, part_values, in_pressures, part_pressures, solved_room, solved_is)

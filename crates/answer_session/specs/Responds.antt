@@ -1,5 +1,5 @@
 -- Room for so many cells, and what is known of a session that was read.
-use Rattle.std.specs.Prelude.{ℕ, ◌+◌, ◌≤◌, ◌≡◌, Bool, false, ◌&&◌, List, [], ℤ, ltb, length, take, drop}
+use Rattle.std.specs.Prelude.{ℕ, ◌+◌, ◌≤◌, ◌≡◌, Bool, false, ◌&&◌, List, [], ℤ, ltb, length, take, drop, Result, Ok, Err}
 use Rattle.method.specs.declared.Sides.{Sides}
 use Rattle.method.specs.declared.Settings.{Settings}
 use Rattle.method.specs.Cast.{cells, sides_fit}
@@ -7,8 +7,8 @@ use Rattle.method.specs.Form.{header, labels_in, values_in}
 use Rattle.method.specs.Answers.{passed, verdict}
 use Rattle.method.specs.Rooms.{byte_need, float_need, word_need}
 use Rattle.method.specs.Program.{program_checks, printed}
-use Rattle.session_header.specs.declared.HeaderRead.{HeaderRead}
-use Rattle.session_header.specs.declared.HeaderRead.TheVariants.{Wrong, Named}
+use Rattle.session_header.specs.declared.Header.{Header}
+use Rattle.answer_session.specs.declared.Lent.{Lent}
 use Rattle.answer_print.specs.Shows.{print_room, PutShort}
 use Rattle.prints.specs.Prints.{crowded, buffer_for}
 
@@ -21,10 +21,14 @@ pub record Roomy (limit values pressures bytes floats words output : ℕ) : Type
   pub words_long : word_need limit ≤ words
   pub output_long : print_room limit ≤ output
 
+-- the same, of what the solver is lent
+abbrev pub RoomFor : ℕ → ℕ → Lent → ℕ → Type 0
+RoomFor limit values lent output = Roomy limit values (length lent.pressures.now) (length lent.bytes.now) (length lent.floats.now) (length lent.words.now) output
+
 -- sides in range but more cells than there is room for, by what a header was read to be
-unfoldable pub crowded_by : ℕ → HeaderRead → Bool
-crowded_by limit (Wrong k) = false
-crowded_by limit (Named h) = sides_fit h.sides && ltb limit (cells h.sides)
+unfoldable pub crowded_by : ℕ → Result Header ℕ → Bool
+crowded_by limit (Err k) = false
+crowded_by limit (Ok h) = sides_fit h.sides && ltb limit (cells h.sides)
 
 -- where the labels of a session that was read stand in its bytes
 pub record LabelsAt (input : List ℕ) (s : Sides) (start : ℕ) : Type 0 where

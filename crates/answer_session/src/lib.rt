@@ -9,15 +9,24 @@ ghost use Rattle.answer_print.specs.Shows.{print_room, PutShort};
 ghost use Rattle.solve.specs.Solve.{asked};
 ghost use Rattle.prints.specs.Prints.{crowded};
 ghost use Rattle.session_header.specs.Lines.{HeaderOf};
-ghost use Rattle.answer_session.specs.Responds.{Roomy, IsRead, LabelsAt, crowded_by};
+ghost use Rattle.answer_session.specs.Responds.{RoomFor, IsRead, LabelsAt, crowded_by};
 
 use answer_print::show;
 use answers::refusal;
 use checks::cast::sides_fit;
 use grid::place::cell_count;
 use method::{Settings, Sides};
-use session_header::{HeaderRead, read_header};
+use session_header::{Header, read_header};
 use session_read::Session;
+
+// What the solver is lent: a pressure for each cell, and its rooms. All of it is scratch, and may be longer than needed.
+#[derive(Drop)]
+pub struct Lent<'a> {
+    pub pressures: &'a mut [i64],
+    pub bytes: &'a mut [u8],
+    pub floats: &'a mut [f64],
+    pub words: &'a mut [u32],
+}
 
 // Whether sides are in range and have more cells than there is room for.
 fn past(sides: Sides, limit: usize) -> bool
@@ -30,15 +39,12 @@ fn past(sides: Sides, limit: usize) -> bool
 }
 
 // The same of the sides that a header names.
-fn too_many(read: HeaderRead, limit: usize) -> bool
+fn too_many(read: Result<Header, u32>, limit: usize) -> bool
     ensures { result ≡ crowded_by limit read }
 {
     match read {
-        HeaderRead::Wrong(_) => false,
-        HeaderRead::Named(h) => {
-            let sides = h.sides;
-            past(sides, limit)
-        }
+        Err(_) => false,
+        Ok(h) => past(h.sides, limit),
     }
 }
 
@@ -69,13 +75,10 @@ fn solve_read(
     limit: usize,
     read: Session,
     values: &[i32],
-    pressures: &mut [i64],
-    bytes: &mut [u8],
-    floats: &mut [f64],
-    words: &mut [u32],
+    lent: Lent<'_>,
     output: &mut [u8],
 ) -> usize
-    requires roomy { Roomy limit (length values.now) (length pressures.old) (length bytes.old) (length floats.old) (length words.old) (length output.old) }
+    requires roomy { RoomFor limit (length values.now) lent (length output.old) }
     requires read { IsRead limit input.now read.sides read.settings values.now }
     requires labels_at { LabelsAt input.now read.sides read.start }
     ensures { PutShort (print_room limit) (printed limit input.now) output.old 0 output.new result }
@@ -84,6 +87,12 @@ fn solve_read(
     let settings = read.settings;
     let start = read.start;
     let n = cell_count(sides);
+    let Lent {
+        pressures,
+        bytes,
+        floats,
+        words,
+    } = lent;
     solved(
         sides,
         &input[start..start + n],
@@ -100,16 +109,13 @@ fn solve_read(
 // A session that does not name too many cells is read, and solved where the reader does not refuse it.
 fn answered(
     input: &[u8],
-    header: HeaderRead,
+    header: Result<Header, u32>,
     limit: usize,
     values: &mut [i32],
-    pressures: &mut [i64],
-    bytes: &mut [u8],
-    floats: &mut [f64],
-    words: &mut [u32],
+    lent: Lent<'_>,
     output: &mut [u8],
 ) -> usize
-    requires roomy { Roomy limit (length values.old) (length pressures.old) (length bytes.old) (length floats.old) (length words.old) (length output.old) }
+    requires roomy { RoomFor limit (length values.old) lent (length output.old) }
     requires header_of { HeaderOf input.now header }
     requires input_value { crowded limit input.now ≡ false }
     ensures { PutShort (print_room limit) (printed limit input.now) output.old 0 output.new result }
@@ -117,19 +123,9 @@ fn answered(
     let read = session_read::read_after(input, header, values);
     let answer = read.answer;
     if answer.number != 0 {
-        return show(answer, &pressures[..0], output);
+        return show(answer, &[], output);
     }
-    solve_read(
-        input,
-        limit,
-        read,
-        &values[..],
-        pressures,
-        bytes,
-        floats,
-        words,
-        output,
-    )
+    solve_read(input, limit, read, &values[..], lent, output)
 }
 
 // Puts the print that is due to a session at the front of the output, and answers how many bytes it has. All else that
@@ -138,21 +134,16 @@ pub fn respond(
     input: &[u8],
     limit: usize,
     values: &mut [i32],
-    pressures: &mut [i64],
-    bytes: &mut [u8],
-    floats: &mut [f64],
-    words: &mut [u32],
+    lent: Lent<'_>,
     output: &mut [u8],
 ) -> usize
-    requires { Roomy limit (length values.old) (length pressures.old) (length bytes.old) (length floats.old) (length words.old) (length output.old) }
+    requires { RoomFor limit (length values.old) lent (length output.old) }
     ensures { PutShort (print_room limit) (printed limit input.now) output.old 0 output.new result }
 {
     let header = read_header(input);
     if too_many(header, limit) {
         let answer = refusal(2, 0);
-        return show(answer, &pressures[..0], output);
+        return show(answer, &[], output);
     }
-    answered(
-        input, header, limit, values, pressures, bytes, floats, words, output,
-    )
+    answered(input, header, limit, values, lent, output)
 }

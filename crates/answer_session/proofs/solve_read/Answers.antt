@@ -5,18 +5,6 @@ use Rattle.answer_session.proofs.solve_read.Goals as goal
 pub cell_count-n-requires : goal.cell_count-n-requires
 cell_count-n-requires c = search parts
 
-pub overflow_add-start : goal.overflow_add-start
-overflow_add-start c = search parts
-
-pub slice_bounds-solved-count : goal.slice_bounds-solved-count
-slice_bounds-solved-count c = search parts
-
-pub slice_bounds-solved-start : goal.slice_bounds-solved-start
-slice_bounds-solved-start c = search parts
-
-pub slice_bounds-solved-end : goal.slice_bounds-solved-end
-slice_bounds-solved-end c = search parts
-
 pub slice_bounds-solved-end-2 : goal.slice_bounds-solved-end-2
 slice_bounds-solved-end-2 c = search parts
 
@@ -28,21 +16,6 @@ slice_bounds-solved-end-4 c = search parts
 
 pub solved-requires : goal.solved-requires
 solved-requires c = search parts
-
-pub shape_of-pressures : goal.shape_of-pressures
-shape_of-pressures c = search parts
-
-pub shape_of-bytes : goal.shape_of-bytes
-shape_of-bytes c = search parts
-
-pub shape_of-floats : goal.shape_of-floats
-shape_of-floats c = search parts
-
-pub shape_of-words : goal.shape_of-words
-shape_of-words c = search parts
-
-pub shape_of-output : goal.shape_of-output
-shape_of-output c = search parts
 
 pub returns : goal.returns
 returns c = search parts

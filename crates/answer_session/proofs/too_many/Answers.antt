@@ -2,17 +2,8 @@
 use Rattle.answer_session.proofs.RespondLaws.{heads}
 use Rattle.answer_session.proofs.too_many.Goals as goal
 
-pub enum_told-1 : goal.enum_told-1
-enum_told-1 c = search heads
+pub returns-in-Err : goal.returns-in-Err
+returns-in-Err c = search heads
 
-pub enum_known-read : goal.enum_known-read
-enum_known-read c = search heads
-
-pub past-requires : goal.past-requires
-past-requires c = search heads
-
-pub returns-in-Wrong : goal.returns-in-Wrong
-returns-in-Wrong c = search heads
-
-pub returns-in-Named : goal.returns-in-Named
-returns-in-Named c = search heads
+pub returns-in-Ok : goal.returns-in-Ok
+returns-in-Ok c = search heads

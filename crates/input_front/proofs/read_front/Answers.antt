@@ -8,6 +8,5 @@ loop-done-preserved g c =
     let gave = read_gave _ _ _ _ _ c.unwrap_or-n.ensures c.read.ensures.bound c.read.ensures.bytes in
     record {
       within = search rules;
-      long = search rules;
       taken = taken_more _ _ _ _ _ _ _ _ c.loop-done.invariant.within c.loop-done.invariant.taken gave;
     }

@@ -5,17 +5,8 @@ use Rattle.renew.proofs.write_new.Goals as goal
 pub cell_count-n-requires : goal.cell_count-n-requires
 cell_count-n-requires c = search newly
 
-pub old_labels-labels-requires : goal.old_labels-labels-requires
-old_labels-labels-requires c = search newly
-
 pub slice_bounds-write-end : goal.slice_bounds-write-end
 slice_bounds-write-end c = search newly
-
-pub write-requires : goal.write-requires
-write-requires c = search newly
-
-pub shape_of-output : goal.shape_of-output
-shape_of-output c = search newly
 
 pub returns : goal.returns
 returns c = search newly

@@ -1,0 +1,2 @@
+-- Laws that the proof of `run` cites.
+pub mod RunLaws
