@@ -1,4 +1,4 @@
-// The few operations on i64 through which all signed code goes. Their contracts speak of whole numbers and of sizes, so
+// The few operations on i64 through which all signed sums go. Their contracts speak of whole numbers and of sizes, so
 // that no caller meets the bits.
 #![tactic(auto)]
 
@@ -25,32 +25,4 @@ pub fn times(d: u32, a: i64) -> i64
     ensures { result ≡ pos d *ᶻ a }
 {
     d as i64 * a
-}
-
-pub fn wide(a: i32) -> i64
-    ensures { result ≡ a }
-{
-    a as i64
-}
-
-// The size of any i64, of the least too.
-pub fn size(a: i64) -> u64
-    ensures { result ≡ nat_abs a }
-{
-    if a < 0 { (-1 - a) as u64 + 1 } else { a as u64 }
-}
-
-// The size of any i32, of the least too.
-pub fn size32(a: i32) -> u32
-    ensures { result ≡ nat_abs a }
-{
-    size(wide(a)) as u32
-}
-
-// A small number as an i32.
-pub fn narrow(a: i64) -> i32
-    requires { nat_abs a < 2 ^ 31 }
-    ensures { result ≡ a }
-{
-    a as i32
 }

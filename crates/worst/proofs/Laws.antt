@@ -6,7 +6,7 @@ use mathlib.Core.List.{List}
 use native.Mathlib.Omega.{arith}
 use borrow.Author.Tests.{eq-eqb, ne_eqb}
 use lib.Dec.{eqb, eqb→eq}
-use lib.IntN.{ℤ, pos, negsuc, nat_abs}
+use lib.IntN.{ℤ, pos, nat_abs}
 use lib.Ieee.{Float}
 use mir.Syntax.{w32}
 use mir.Val.{SFits}
@@ -19,7 +19,7 @@ use Rattle.theory.proofs.Firsts.{FirstAt, Search, found, none, search_first}
 use Rattle.answers.specs.declared.Worst.{Worst}
 use Rattle.ticks.specs.Faces.{Residual}
 use Rattle.acceptance.specs.Cells.{rounded_on}
-use Rattle.signed_numbers.proofs.Laws.{wholes}
+use Rattle.signed_numbers.proofs.Laws.{wholes, narrow_fits}
 use Rattle.worst.specs.Worst.{cast_of, Sought, worst_of}
 
 -- ---- one cell
@@ -34,10 +34,6 @@ module _ (g : Sides) (ls : List ℕ) (vs ps : List ℤ) (c : ℕ) where
   unfolding is_worst judged is_air
   not_air l e h =
       sym (ap (λ b. b && eqb (nat_abs (residual g ls (field vs) (field ps) c)) (worst (cast_of g ls vs) ps)) (ne_eqb (label_at ls c) 0 (λ q. h (e ∙ q))))
-
-fits_32 : (z : ℤ) → nat_abs z < 2 ^ 31 → SFits w32 z
-fits_32 (pos n) h = record { sfits = omega arith }
-fits_32 (negsuc n) h = record { sfits = omega arith }
 
 -- ---- the first of them
 module _ {g : Sides} {ls : List ℕ} {vs : List ℤ} {x : List Float} {w : ℕ} (z : Sought g ls vs x w) where
@@ -85,7 +81,7 @@ module _ {g : Sides} {ls : List ℕ} {vs : List ℤ} {x : List Float} {w : ℕ} 
         omega (arith, ap nat_abs q.is, size, z.is, z.small)
 
     pub found_fits : (r : ℤ) → Residual g ls vs ps c r → SFits w32 r
-    found_fits r q = fits_32 r (found_small r q)
+    found_fits r q = narrow_fits r (found_small r q)
 
     pub found_is : (r s : ℤ) → Residual g ls vs ps c r → s ≡ r → ◌≡◌ {A = Worst} (record { cell = c; left = s }) (worst_of (cast_of g ls vs) ps)
     unfolding worst_cell worst_value
