@@ -12,10 +12,10 @@ ghost use Rattle.session_header.specs.Lines.{HeaderOf};
 ghost use Rattle.answer_session.specs.Responds.{RoomFor, IsRead, LabelsAt, crowded_by};
 
 use answer_print::show;
-use answers::refusal;
+use answers::Fault;
 use checks::cast::sides_fit;
 use grid::place::cell_count;
-use method::{Settings, Sides};
+use method::{Answer, Settings, Sides};
 use session_header::{Header, read_header};
 use session_read::Session;
 
@@ -142,7 +142,7 @@ pub fn respond(
 {
     let header = read_header(input);
     if too_many(header, limit) {
-        let answer = refusal(2, 0);
+        let answer = Answer::from(Fault::WrongLength);
         return show(answer, &[], output);
     }
     answered(input, header, limit, values, lent, output)
