@@ -15,6 +15,9 @@ use grid::near::{label_at, neighbours};
 use method::{Settings, Sides};
 use ticks::Faces;
 
+// Kept: sides, labels, values and x go from function to function. A struct of them holds a `&`, so that each `ensures`
+// would speak of its fields as they were at the entry, `k.entry.labels.now` for `labels.now`.
+
 // The pressure of cell j, by its label: the tick of x in air, the level at an opening, 0 at a wall.
 fn whole_at(label: u8, values: &[i32], x: &[f64], j: usize) -> i64
     requires { (j < length values.now) × (j < length x.now) }

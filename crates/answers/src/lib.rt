@@ -143,6 +143,13 @@ pub fn refusal(number: u32, place: u32) -> Answer
     without_worst(number, place, 0, 0, 0)
 }
 
+// The answer where nothing is at fault, of all calls but the solver's own: 0, with the other fields 0.
+pub fn done() -> Answer
+    ensures { result ≡ Answers·refusal 0 0 }
+{
+    refusal(0, 0)
+}
+
 // Answers 8 and 9.
 pub fn unfinished(number: u32, rounds: u32, of: Measured) -> Answer
     ensures { result ≡ Answers·unfinished number rounds of.interior of.depth }

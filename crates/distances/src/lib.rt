@@ -12,6 +12,9 @@ use grid::near::{step_back, step_on};
 use rooms::clear_front;
 use search::first_where;
 
+// Kept: the queue is a part of the room with its length `tail` beside it, since the room is lent, one for marks and
+// queue, and nothing is allocated.
+
 // What the walks of a cast come to.
 #[derive(Clone, Copy)]
 pub struct Walked {

@@ -13,6 +13,9 @@ pub struct Spot {
     pub z: usize,
 }
 
+// Kept: that sides are in range (`Fit`) stands in contracts. `method::Sides` is also what C and a session hand in, not
+// judged yet, and the meaning's words take it: of a type with the fact in it each clause would say `cells g.sides`.
+
 // The number of cells.
 pub fn cell_count(g: method::Sides) -> usize
     requires { Fit g }

@@ -30,6 +30,9 @@ fn put_answer(answers: &mut [i64], answer: Answer)
     ]);
 }
 
+// Kept: the cast, the plan and what is lent go from function to function, since a struct of them holds a `&`: each `ensures` would speak of
+// its fields as they were at the entry.
+
 // One set: check 5, and then its rounds. The labels and lists stay as they are, and nothing is asked of what the
 // binary64 room holds.
 fn one_set(

@@ -8,7 +8,7 @@ ghost use Rattle.std.specs.Prelude.{◌≡◌};
 ghost use Rattle.method.specs.OldForm.{old_reading};
 ghost use Rattle.old_read.specs.OldReads.{TakesIf, OldReadOf, old_asked, old_taken_of};
 
-use answers::{Fault, refusal};
+use answers::{Fault, done};
 use grid::place::cell_count;
 use judge::judge_old;
 use method::{Answer, Settings, Sides};
@@ -61,7 +61,7 @@ fn taken_of(judged: Result<OldHeader, Fault>) -> Taken
             let body = h.start;
             let count = cell_count(h.sides);
             let session = OldSession {
-                answer: refusal(0, 0),
+                answer: done(),
                 sides: h.sides,
                 unit: h.unit,
                 start: body + 2 * count,

@@ -6,7 +6,7 @@ mod units;
 
 ghost use Rattle.old_write.specs.OldWrites.{OldWriteOf};
 
-use answers::refusal;
+use answers::done;
 use judge::judge_old_cast;
 use method::{Answer, Sides};
 use old_put::put_old_session;
@@ -29,7 +29,7 @@ pub fn write_old(
         }
         Ok(()) => {
             let count = put_old_session(sides, unit, labels, values, output);
-            let answer = refusal(0, 0);
+            let answer = done();
             Written { answer, count }
         }
     }

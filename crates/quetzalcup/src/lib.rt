@@ -37,7 +37,7 @@ pub struct Read {
     pub start: usize,
 }
 
-// The number of an order.
+// The number of an order. Kept: C has it as a number, and a `From` would stand in crate method, which has no code.
 fn number_of(order: Order) -> u32
     ensures { result ≡ order_number order }
 {

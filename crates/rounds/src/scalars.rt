@@ -13,6 +13,9 @@ use cg_fields::entries::is_finite;
 use method::{Scalars, Sides};
 use smooth::Lattice;
 
+// Kept: room, bytes, words, plan, labels and sides go from function to function, since a struct of them holds a `&`: each `ensures` would speak of
+// its fields as they were at the entry.
+
 // Whether a number is finite and above 0.
 #[tactic(auto, unfolding(method::specs::Rounds::usable, method::specs::Rounds::finite))]
 fn is_usable(x: f64) -> bool

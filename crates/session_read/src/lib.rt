@@ -10,7 +10,7 @@ ghost use Rattle.method.specs.Reading.{reading};
 ghost use Rattle.session_header.specs.Lines.{HeaderOf};
 ghost use Rattle.session_read.specs.Reads.{FitIf, ReadOf, asked, taken_of};
 
-use answers::{Fault, refusal};
+use answers::{Fault, done};
 use grid::place::cell_count;
 use judge::judge_session;
 use method::{Answer, Order, Settings, Sides};
@@ -61,7 +61,7 @@ fn taken_of(judged: Result<Header, Fault>) -> Taken
         }
         Ok(h) => {
             let session = Session {
-                answer: refusal(0, 0),
+                answer: done(),
                 sides: h.sides,
                 order: h.order,
                 settings: h.settings,

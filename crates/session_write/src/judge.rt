@@ -11,6 +11,9 @@ use grid::place::cell_count;
 use method::{Order, Settings, Sides};
 use session_bytes::length::header_length;
 
+// Kept: sides, order, settings, labels and values go from function to function, since a struct of them holds a `&`: each `ensures` would speak of
+// its fields as they were at the entry.
+
 // Checks 1 and 3, of the sides and the settings.
 fn judge_limits(sides: Sides, settings: Settings) -> Result<(), Fault>
     ensures { result ≡ limit_ruling sides settings }

@@ -5,7 +5,7 @@ mod judge;
 
 ghost use Rattle.session_write.specs.Writes.{WriteOf};
 
-use answers::refusal;
+use answers::done;
 use judge::judge_cast;
 use method::{Answer, Order, Settings, Sides};
 use session_bytes::put_session;
@@ -36,7 +36,7 @@ pub fn write(
         }
         Ok(()) => {
             let count = put_session(sides, order, settings, labels, values, output);
-            let answer = refusal(0, 0);
+            let answer = done();
             Written { answer, count }
         }
     }

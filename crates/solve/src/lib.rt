@@ -17,6 +17,9 @@ use prepare::prepare;
 use rooms::clear;
 use rounds::Plan;
 
+// Kept: the cast and the four lent slices go from function to function, since a struct of them holds a `&`: each `ensures` would speak of
+// its fields as they were at the entry.
+
 // One set of values on a prepared cast: the rounds, and the pressures where they are accepted. Labels and lists stay.
 pub fn run(
     sides: Sides,

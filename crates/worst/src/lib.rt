@@ -13,6 +13,9 @@ use grid::place::cell_count;
 use method::Sides;
 use search::first_where;
 
+// Kept: sides, labels, values and x go from function to function, since a struct of them holds a `&`: each `ensures` would speak of
+// its fields as they were at the entry.
+
 // Whether c is an air cell whose residual has the worst size.
 fn is_worst(g: Sides, labels: &[u8], values: &[i32], x: &[f64], c: usize, worst: u32) -> bool
     requires { Sought g labels.now values.now x.now worst × (c < cells g) }
