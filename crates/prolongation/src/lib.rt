@@ -12,7 +12,7 @@ ghost use Rattle.theory.specs.Quiet.{Quiet};
 ghost use Rattle.transfer.specs.Transfer.{TwoLevels, corrected_room};
 ghost use Rattle.transfer.specs.Rows.{Stretch, two, row_step, pair_step, Rows, Halves, Spread, coarse_step, Sums, given_sum, plus_at, plus_step};
 
-use transfer::rows::RowPair;
+use transfer::rows::{RowPair, RowSources};
 
 // The sum of fine cell i with its two cells of the coarse row.
 fn two_at(room: &[f64], rows: RowPair, i: usize) -> f64
@@ -74,31 +74,27 @@ fn drawn_as(x: usize, q: usize) -> usize
 }
 
 // The r-th of the four coarse rows around the fine row at y, z, where it is in the box.
-fn give_coarse(
-    room: &mut [f64],
-    h: method::Sides,
-    n: usize,
-    from: usize,
-    o: usize,
-    m: usize,
-    y: usize,
-    z: usize,
-    r: usize,
-)
-    requires { Spread h n from o m y z room.old × (Halves m h.nx × (r < 4)) }
-    ensures { room.new ≡ coarse_step h from o m y z r room.old }
+fn give_coarse(room: &mut [f64], sources: RowSources, r: usize)
+    requires { Spread sources.sides sources.cells sources.from sources.to sources.sums sources.along_y sources.along_z room.old × (Halves sources.sums sources.sides.nx × (r < 4)) }
+    ensures { room.new ≡ coarse_step sources.sides sources.from sources.to sources.sums sources.along_y sources.along_z r room.old }
 {
-    let at = grid::place::place(h, n, 1, (y + 1) / 2 + r % 2, (z + 1) / 2 + r / 2);
-    if at < n {
-        let j = drawn_as(y, r % 2);
-        let k = drawn_as(z, r / 2);
+    let at = grid::place::place(
+        sources.sides,
+        sources.cells,
+        1,
+        (sources.along_y + 1) / 2 + r % 2,
+        (sources.along_z + 1) / 2 + r / 2,
+    );
+    if at < sources.cells {
+        let j = drawn_as(sources.along_y, r % 2);
+        let k = drawn_as(sources.along_z, r / 2);
         let far = transfer::weights::weight(0, j, k);
         let near = transfer::weights::weight(1, j, k);
         let rows = RowPair {
-            from: from + at,
-            cells: h.nx as usize,
-            to: o,
-            sums: m,
+            from: sources.from + at,
+            cells: sources.sides.nx as usize,
+            to: sources.to,
+            sums: sources.sums,
             far,
             near,
         };
@@ -107,21 +103,12 @@ fn give_coarse(
 }
 
 // All four, in ascending order.
-fn give_all(
-    room: &mut [f64],
-    h: method::Sides,
-    n: usize,
-    from: usize,
-    o: usize,
-    m: usize,
-    y: usize,
-    z: usize,
-)
-    requires { Spread h n from o m y z room.old × Halves m h.nx }
-    ensures { room.new ≡ up (coarse_step h from o m y z) 4 room.old }
+fn give_all(room: &mut [f64], sources: RowSources)
+    requires { Spread sources.sides sources.cells sources.from sources.to sources.sums sources.along_y sources.along_z room.old × Halves sources.sums sources.sides.nx }
+    ensures { room.new ≡ up (coarse_step sources.sides sources.from sources.to sources.sums sources.along_y sources.along_z) 4 room.old }
 {
     for r in 0..4 {
-        give_coarse(room, h, n, from, o, m, y, z, r);
+        give_coarse(room, sources, r);
     }
 }
 
@@ -136,7 +123,16 @@ fn sum_row(room: &mut [f64], g: method::Sides, h: method::Sides, n: usize, m: us
     let z = r / ny;
     let o = 2 * n + nx * r;
     rooms::clear_front(&mut room[o..], nx, 0.0);
-    give_all(room, h, m, 3 * n, o, nx, y, z);
+    let sources = RowSources {
+        sides: h,
+        cells: m,
+        from: 3 * n,
+        to: o,
+        sums: nx,
+        along_y: y,
+        along_z: z,
+    };
+    give_all(room, sources);
 }
 
 // The sums of all fine cells.

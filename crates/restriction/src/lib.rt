@@ -11,7 +11,7 @@ ghost use Rattle.theory.specs.Quiet.{Quiet};
 ghost use Rattle.transfer.specs.Transfer.{TwoLevels, restricted_room};
 ghost use Rattle.transfer.specs.Rows.{Stretch, four, row_step, Rows, Halves, Spread, fine_step, Sums, drawn_sum, over_at, over_step};
 
-use transfer::rows::RowPair;
+use transfer::rows::{RowPair, RowSources};
 
 // The sum of coarse cell i with its four cells of the fine row.
 fn four_at(room: &[f64], rows: RowPair, i: usize) -> f64
@@ -56,29 +56,25 @@ fn draw_row(room: &mut [f64], rows: RowPair)
 }
 
 // The r-th of the sixteen fine rows around the coarse row at y, z, where it is in the box.
-fn draw_fine(
-    room: &mut [f64],
-    g: method::Sides,
-    n: usize,
-    from: usize,
-    o: usize,
-    m: usize,
-    y: usize,
-    z: usize,
-    r: usize,
-)
-    requires { Spread g n from o m y z room.old × (Halves g.nx m × (r < 16)) }
-    ensures { room.new ≡ fine_step g from o m y z r room.old }
+fn draw_fine(room: &mut [f64], sources: RowSources, r: usize)
+    requires { Spread sources.sides sources.cells sources.from sources.to sources.sums sources.along_y sources.along_z room.old × (Halves sources.sides.nx sources.sums × (r < 16)) }
+    ensures { room.new ≡ fine_step sources.sides sources.from sources.to sources.sums sources.along_y sources.along_z r room.old }
 {
-    let at = grid::place::place(g, n, 1, 2 * y + r % 4, 2 * z + r / 4);
-    if at < n {
+    let at = grid::place::place(
+        sources.sides,
+        sources.cells,
+        1,
+        2 * sources.along_y + r % 4,
+        2 * sources.along_z + r / 4,
+    );
+    if at < sources.cells {
         let far = transfer::weights::weight(0, r % 4, r / 4);
         let near = transfer::weights::weight(1, r % 4, r / 4);
         let rows = RowPair {
-            from: from + at,
-            cells: g.nx as usize,
-            to: o,
-            sums: m,
+            from: sources.from + at,
+            cells: sources.sides.nx as usize,
+            to: sources.to,
+            sums: sources.sums,
             far,
             near,
         };
@@ -87,21 +83,12 @@ fn draw_fine(
 }
 
 // All sixteen, in ascending order.
-fn draw_all(
-    room: &mut [f64],
-    g: method::Sides,
-    n: usize,
-    from: usize,
-    o: usize,
-    m: usize,
-    y: usize,
-    z: usize,
-)
-    requires { Spread g n from o m y z room.old × Halves g.nx m }
-    ensures { room.new ≡ up (fine_step g from o m y z) 16 room.old }
+fn draw_all(room: &mut [f64], sources: RowSources)
+    requires { Spread sources.sides sources.cells sources.from sources.to sources.sums sources.along_y sources.along_z room.old × Halves sources.sides.nx sources.sums }
+    ensures { room.new ≡ up (fine_step sources.sides sources.from sources.to sources.sums sources.along_y sources.along_z) 16 room.old }
 {
     for r in 0..16 {
-        draw_fine(room, g, n, from, o, m, y, z, r);
+        draw_fine(room, sources, r);
     }
 }
 
@@ -116,7 +103,16 @@ fn sum_row(room: &mut [f64], g: method::Sides, h: method::Sides, n: usize, m: us
     let z = r / my;
     let o = 3 * n + m + mx * r;
     rooms::clear_front(&mut room[o..], mx, 0.0);
-    draw_all(room, g, n, 2 * n, o, mx, y, z);
+    let sources = RowSources {
+        sides: g,
+        cells: n,
+        from: 2 * n,
+        to: o,
+        sums: mx,
+        along_y: y,
+        along_z: z,
+    };
+    draw_all(room, sources);
 }
 
 // The sums of all coarse cells.

@@ -1,4 +1,4 @@
-// What both transfers do to a row: which two rows, and a sum with one cell of a source row more.
+// What both transfers do to a row: which two rows, which source field, and a sum with one cell of a source row more.
 ghost use Rattle.std.specs.Prelude.{◌≡◌};
 ghost use Rattle.transfer.specs.Rows.{row_term};
 
@@ -17,6 +17,25 @@ pub struct RowPair {
     pub far: f64,
     // of one that lies nearer
     pub near: f64,
+}
+
+// The source field of one level around a target row of the other, whose rows are added to that row one by one.
+#[derive(Clone, Copy)]
+pub struct RowSources {
+    // the sides of the source field's box
+    pub sides: method::Sides,
+    // how many cells it has
+    pub cells: usize,
+    // where the source field begins
+    pub from: usize,
+    // where the target row begins, which holds sums
+    pub to: usize,
+    // how many sums it has
+    pub sums: usize,
+    // where the target row lies in its own box along y
+    pub along_y: usize,
+    // and along z
+    pub along_z: usize,
 }
 
 // The sum a with the row's cell p, counted from one, where it is in the row.

@@ -4,4 +4,4 @@ use Rattle.transfer.specs.Rows.{coarse_step}
 use Rattle.prolongation.proofs.give_all.Given as goal
 
 abbrev pub invariant-loop-r : goal.invariant-loop-r
-invariant-loop-r l = Up (coarse_step l.h l.from l.o l.m l.y l.z) l.initial.room l.r l.room
+invariant-loop-r l = Up (coarse_step l.sources.sides l.sources.from l.sources.to l.sources.sums l.sources.along_y l.sources.along_z) l.initial.room l.r l.room

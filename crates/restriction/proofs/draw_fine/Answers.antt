@@ -5,8 +5,8 @@ use Rattle.restriction.proofs.draw_fine.Goals as goal
 pub draw_row-requires : goal.draw_row-requires
 draw_row-requires c = search spreads
 
-pub returns-then-at-n : goal.returns-then-at-n
-returns-then-at-n c = search spreads
+pub returns-then-at-sources : goal.returns-then-at-sources
+returns-then-at-sources c = search spreads
 
-pub returns-else-at-n : goal.returns-else-at-n
-returns-else-at-n c = search spreads
+pub returns-else-at-sources : goal.returns-else-at-sources
+returns-else-at-sources c = search spreads
