@@ -1,5 +1,4 @@
--- Document 01's table: what number and place each refusal has; 13 is document 02's. And what checks say, as method's
--- verdicts.
+-- Document 01's table: what number and place each refusal has; 13 is document 02's.
 use Rattle.std.specs.Prelude.{ℕ}
 use Rattle.answers.specs.declared.Fault.{Fault}
 use Rattle.answers.specs.declared.Fault.TheVariants.{SideOutOfRange, WrongLength, SettingOutOfRange, BadLabel, BadValue, NoAir, SealedAir, BadLine, BadBody, Inexpressible}

@@ -36,7 +36,7 @@ list_row g ls count j = record {
   air = length (air_at g ls count j);
 }
 
--- the lists of the first k levels, 0 for the others
+-- no list
 abbrev pub no_list : LevelList
 no_list = record { start = 0; swept = 0; air = 0 }
 
@@ -44,6 +44,7 @@ no_list = record { start = 0; swept = 0; air = 0 }
 abbrev pub row_in : Lists → ℕ → LevelList
 row_in s k = get_or s k no_list
 
+-- the lists of the first k levels, and no list for the others
 unfoldable pub lists_to : Sides → List ℕ → ℕ → ℕ → Lists
 lists_to g ls count k = firsts no_list (list_row g ls count) k
 

@@ -1,5 +1,5 @@
 // The checks of sides, settings, labels and values.
-ghost use Rattle.std.specs.Prelude.{◌≡◌, ◌&&◌, ◌<◌, ◌≤◌, ltb, nat_abs, length};
+ghost use Rattle.std.specs.Prelude.{◌≡◌, ℕ, ◌&&◌, ◌<◌, ◌≤◌, ltb, nat_abs, length};
 ghost use Rattle.method.specs.Cast.{sides_fit, settings_fit, interior, widest, first};
 ghost use Rattle.method.specs.Cast.{between as Cast·between};
 ghost use Rattle.answers.specs.declared.Fault.TheVariants.{SideOutOfRange, SettingOutOfRange, BadLabel, BadValue, NoAir};
@@ -37,26 +37,36 @@ pub fn settings_fit(settings: Settings) -> bool
         && between(0, 1000, settings.rounds)
 }
 
+// A fault that has no place, unless all is well.
+pub fn unless(fault: Fault, well: bool) -> Result<(), Fault>
+    ensures { result ≡ unless fault well }
+{
+    if well { Ok(()) } else { Err(fault) }
+}
+
+// What was found, as a fault of this kind.
+pub fn at_fault<F: Fn(u32) -> Fault>(kind: F, found: Option<u32>) -> Result<(), Fault>
+    requires callable { (c : ℕ) → F.pre kind c }
+    ensures { (k : ℕ → Fault) → ((c : ℕ) → (f : Fault) → F.post kind c f → f ≡ k c) → result ≡ ruling_by k found }
+{
+    match found {
+        Some(cell) => Err(kind(cell)),
+        None => Ok(()),
+    }
+}
+
 // Check 1 and its fault.
 pub fn judge_sides(sides: Sides) -> Result<(), Fault>
     ensures { result ≡ unless SideOutOfRange (sides_fit sides) }
 {
-    if sides_fit(sides) {
-        Ok(())
-    } else {
-        Err(Fault::SideOutOfRange)
-    }
+    unless(Fault::SideOutOfRange, sides_fit(sides))
 }
 
 // Check 3 and its fault.
 pub fn judge_settings(settings: Settings) -> Result<(), Fault>
     ensures { result ≡ unless SettingOutOfRange (settings_fit settings) }
 {
-    if settings_fit(settings) {
-        Ok(())
-    } else {
-        Err(Fault::SettingOutOfRange)
-    }
+    unless(Fault::SettingOutOfRange, settings_fit(settings))
 }
 
 // Whether the label at a place is above 2.
@@ -118,10 +128,7 @@ pub fn judge_labels(labels: &[u8], n: usize) -> Result<(), Fault>
     requires { (n ≤ 32768) × (n ≤ length labels.now) }
     ensures { result ≡ ruling_by BadLabel (first (bad_label_at labels.now) n) }
 {
-    match bad_label(labels, n) {
-        Some(cell) => Err(Fault::BadLabel(cell)),
-        None => Ok(()),
-    }
+    at_fault(|cell| Fault::BadLabel(cell), bad_label(labels, n))
 }
 
 // Check 5 of n cells, and its fault.
@@ -129,10 +136,7 @@ fn judge_values(labels: &[u8], values: &[i32], n: usize) -> Result<(), Fault>
     requires { (n ≤ 32768) × ((n ≤ length labels.now) × (n ≤ length values.now)) }
     ensures { result ≡ ruling_by BadValue (first (bad_value_at labels.now values.now) n) }
 {
-    match bad_value(labels, values, n) {
-        Some(cell) => Err(Fault::BadValue(cell)),
-        None => Ok(()),
-    }
+    at_fault(|cell| Fault::BadValue(cell), bad_value(labels, values, n))
 }
 
 // Checks 4 and 5 of n cells.
@@ -149,9 +153,5 @@ pub fn judge_air(sides: Sides, labels: &[u8]) -> Result<(), Fault>
     requires { Fit sides }
     ensures { result ≡ unless NoAir (ltb 0 (interior sides labels.now)) }
 {
-    if 0 < interior(labels, sides) {
-        Ok(())
-    } else {
-        Err(Fault::NoAir)
-    }
+    unless(Fault::NoAir, 0 < interior(labels, sides))
 }

@@ -15,6 +15,7 @@ Levels = List Level
 unfoldable pub level_at : Sides → ℕ → Level
 level_at g k = record { start = cells_before g k; sides = sides_at g k }
 
+-- the six levels of a box
 unfoldable pub levels_of : Sides → Levels
 levels_of g = tab 6 (level_at g)
 

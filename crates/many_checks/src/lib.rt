@@ -10,7 +10,7 @@ ghost use Rattle.method.specs.Many.{sets_fit};
 ghost use Rattle.many_checks.specs.ManyRulings.{lengths_by, content_ruling, many_ruling};
 
 use answers::Fault;
-use checks::cast::{judge_air, judge_labels, judge_sides, settings_fit};
+use checks::cast::{judge_air, judge_labels, judge_sides, settings_fit, unless};
 use grid::place::cell_count;
 use method::{Settings, Sides};
 
@@ -67,11 +67,7 @@ fn task_fits(settings: Settings, sets: u32) -> bool
 fn judge_task(settings: Settings, sets: u32) -> Result<(), Fault>
     ensures { result ≡ unless SettingOutOfRange (settings_fit settings && sets_fit sets) }
 {
-    if task_fits(settings, sets) {
-        Ok(())
-    } else {
-        Err(Fault::SettingOutOfRange)
-    }
+    unless(Fault::SettingOutOfRange, task_fits(settings, sets))
 }
 
 // Checks 3, 4 and 6, of a cast with a label for each of its n cells.

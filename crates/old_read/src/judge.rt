@@ -10,7 +10,7 @@ ghost use Rattle.old_read.specs.OldReads.{OldJudgedOf, OldSized, old_body_ruling
 
 use crate::values::bad_value;
 use answers::Fault;
-use checks::cast::{judge_labels, judge_sides, settings_fit};
+use checks::cast::{at_fault, judge_labels, judge_sides, settings_fit, unless};
 use grid::place::cell_count;
 use method::{Settings, Sides};
 use old_header::{OldHeader, read_old_header, unit_fits};
@@ -35,17 +35,9 @@ fn judge_sizes(
 {
     judge_sides(sides)?;
     let n = cell_count(sides);
-    if left != 3 * n {
-        return Err(Fault::BadBody);
-    }
-    if room < n {
-        return Err(Fault::WrongLength);
-    }
-    if limits_fit(unit, settings) {
-        Ok(())
-    } else {
-        Err(Fault::SettingOutOfRange)
-    }
+    unless(Fault::BadBody, left == 3 * n)?;
+    unless(Fault::WrongLength, n <= room)?;
+    unless(Fault::SettingOutOfRange, limits_fit(unit, settings))
 }
 
 // Check 5, of a body of n cells with these labels.
@@ -53,10 +45,7 @@ fn judge_values(body: &[u8], labels: &[u8], n: usize, unit: u32) -> Result<(), F
     requires { (n ≤ 32768) × ((n ≤ length labels.now) × ((2 * n ≤ length body.now) × (unit ≤ 1000))) }
     ensures { result ≡ ruling_by BadValue (first (bad_old_value body.now labels.now unit) n) }
 {
-    match bad_value(body, labels, n, unit) {
-        Some(cell) => Err(Fault::BadValue(cell)),
-        None => Ok(()),
-    }
+    at_fault(|cell| Fault::BadValue(cell), bad_value(body, labels, n, unit))
 }
 
 // Checks 4 and 5, of a body of n cells: its labels come after its values.

@@ -9,7 +9,7 @@ ghost use Rattle.old_write.specs.OldWrites.{OldRuledOf, inexpressible, old_offer
 
 use crate::units::first_inexpressible;
 use answers::Fault;
-use checks::cast::{judge_cells, judge_sides};
+use checks::cast::{at_fault, judge_cells, judge_sides};
 use grid::place::cell_count;
 use method::Sides;
 use old_header::unit_fits;
@@ -36,10 +36,7 @@ fn judge_units(values: &[i32], n: usize, unit: u32) -> Result<(), Fault>
     requires { (0 < unit) × ((n ≤ 32768) × (n ≤ length values.now)) }
     ensures { result ≡ ruling_by Inexpressible (first (inexpressible unit values.now) n) }
 {
-    match first_inexpressible(values, n, unit) {
-        Some(cell) => Err(Fault::Inexpressible(cell)),
-        None => Ok(()),
-    }
+    at_fault(|cell| Fault::Inexpressible(cell), first_inexpressible(values, n, unit))
 }
 
 // Checks 2, 4, 5 and 13, of sides and a unit that are right.

@@ -1,5 +1,5 @@
-// The solver's rooms: how much of each a cast of n cells needs, and how it is handed back. One loop for each kind of
-// element, of which all clearing is made.
+// The solver's rooms: how much of each a cast of n cells needs, and how it is handed back. One
+// loop clears the front of a slice of any kind.
 #![tactic(auto)]
 
 ghost use Rattle.std.specs.Prelude.{◌≡◌, ◌≤◌, length};

@@ -7,7 +7,7 @@ ghost use Rattle.session_values.specs.Body.{bad_value_in};
 ghost use Rattle.session_read.specs.Reads.{content_ruling};
 
 use answers::Fault;
-use checks::cast::{judge_labels, judge_settings};
+use checks::cast::{at_fault, judge_labels, judge_settings};
 use method::{Order, Settings};
 use session_values::bad_value;
 
@@ -16,10 +16,7 @@ fn judge_values(body: &[u8], n: usize, order: Order) -> Result<(), Fault>
     requires { (n ≤ 32768) × (5 * n ≤ length body.now) }
     ensures { result ≡ ruling_by BadValue (first (bad_value_in body.now n order) n) }
 {
-    match bad_value(body, n, order) {
-        Some(cell) => Err(Fault::BadValue(cell)),
-        None => Ok(()),
-    }
+    at_fault(|cell| Fault::BadValue(cell), bad_value(body, n, order))
 }
 
 // Checks 3, 4 and 5, of the settings and a body of n cells.

@@ -6,6 +6,7 @@ ghost use Rattle.checks.specs.Rulings.{unless};
 ghost use Rattle.session_read.specs.Reads.{size_ruling};
 
 use answers::Fault;
+use checks::cast::unless;
 use method::Sides;
 
 // Whether a number is the product of two, which may be too large to be had.
@@ -32,22 +33,14 @@ fn body_fits(sides: Sides, left: usize) -> bool
 pub(crate) fn judge_second(n: usize, room: usize) -> Result<(), Fault>
     ensures { result ≡ unless WrongLength (leb n room) }
 {
-    if n <= room {
-        Ok(())
-    } else {
-        Err(Fault::WrongLength)
-    }
+    unless(Fault::WrongLength, n <= room)
 }
 
 // Check 11, of how many bytes the body has.
 fn judge_eleventh(sides: Sides, left: usize) -> Result<(), Fault>
     ensures { result ≡ unless BadBody (eqb left (5 * cells sides)) }
 {
-    if body_fits(sides, left) {
-        Ok(())
-    } else {
-        Err(Fault::BadBody)
-    }
+    unless(Fault::BadBody, body_fits(sides, left))
 }
 
 // Checks 1 and 11, of the sides and how many bytes the body has.

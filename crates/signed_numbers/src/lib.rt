@@ -24,5 +24,5 @@ pub fn times(d: u32, a: i64) -> i64
     requires { (d ≤ 6) × (nat_abs a ≤ 2 ^ 42) }
     ensures { result ≡ pos d *ᶻ a }
 {
-    d as i64 * a
+    i64::from(d) * a
 }

@@ -14,10 +14,13 @@ use Rattle.theory.proofs.Digits.{decimal_short, decimal_more}
 use Rattle.text_out.specs.Puts.{Put, DigitsOf}
 use Rattle.text_out.proofs.PutLaws.{put_length, put_then}
 
+pub last_digit_lem : (n : ℕ) → n % 10 < 10
+last_digit_lem n = mod-lt n (omega arith)
+
 decimal_large : (n : ℕ) → 10 ≤ n → decimal n ≡ decimal (n / 10) ++ ((48 + n % 10) ∷ [])
 decimal_large n h =
     let e : n ≡ 10 * (n / 10) + n % 10 = omega arith in
-    ap decimal e ∙ decimal_more (n / 10) (n % 10) (omega arith) (mod-lt n (omega arith))
+    ap decimal e ∙ decimal_more (n / 10) (n % 10) (omega arith) (last_digit_lem n)
 
 length_small : (n : ℕ) → n < 10 → length (decimal n) ≡ 1
 length_small n h = ap length (decimal_short n h)
