@@ -4,7 +4,6 @@ use mathlib.Core.Path.{◌≡◌, refl, sym, ap, ◌∙◌}
 use mathlib.Core.Bool.{true, false, true≢false}
 use Prim.Native.Nat.{ℕ, suc, ◌+◌}
 use native.Mathlib.Omega.{arith}
-use borrow.Author.Rules.{rules}
 use borrow.Author.Tests.{le-ltb, ltb-true}
 use lib.Dec.{T}
 use lib.IntN.{ℤ, pos, negsuc, nat_abs, ◌-ℤ◌}
@@ -56,11 +55,3 @@ module _ (p : ℤ) (f : SFits w64 p) where
 
     pub size_below : nat_abs (to_z w64 (of_z w64 (negsuc 0 -ℤ to_z w64 (of_z w64 p)))) + 1 ≡ nat_abs p
     size_below = rw (turned_read p f e) (omega arith ∙ sym (ap nat_abs (below p f e)))
-
-  pub plain_cast : lt_z (to_z w64 (of_z w64 p)) (pos 0) ≡ false → T (non_neg (to_z w64 (of_z w64 p))) × Fits w64 (nat_abs (to_z w64 (of_z w64 p)))
-  plain_cast e = rw (same p f, above p f e) (tt, record { fits = omega (arith, f.sfits) })
-
-  pub size_above : nat_abs (to_z w64 (of_z w64 p)) ≡ nat_abs p
-  size_above = ap nat_abs (same p f)
-
-pub ruleset sizes = (rules, turned_fits, turned_more, size_below, size_above)
