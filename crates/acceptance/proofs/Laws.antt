@@ -266,5 +266,3 @@ pub ruleset pressed = (wholes, pressure_air, pressure_opening, pressure_wall, la
 pub ruleset gathers = (walks, gathering_added)
 
 pub ruleset turns = (ups, none_none)
-
-pub ruleset verdicts = (ups, refused_by, refused_not, refused_fails, beyond_fails, within_passes)

@@ -1,5 +1,4 @@
--- The cycle run again; what the calls of a run ask, and its result; what the exported calls make of it. Assumes
--- nothing.
+-- What the calls of a run ask, and its result; what the exported calls make of it. Assumes nothing.
 use Prim.Native.Nat.{ℕ, zero, suc, ◌+◌, ◌-◌, ◌*◌, ◌≤◌, ◌<◌}
 use mathlib.Core.Path.{◌≡◌, refl, sym, ap, ◌∙◌}
 use mathlib.Core.Bool.{Bool, true}
@@ -33,27 +32,13 @@ use Rattle.levels.proofs.Calls.{base_is, labels_asked}
 use Rattle.bands.proofs.Calls.{base_labels_lem, lists_asked}
 use Rattle.smooth.specs.Fields.{u_of, b_of}
 use Rattle.cycle.specs.Strokes.{Ended}
-use Rattle.cycle.specs.Rooms.{Ready, cells_of, cycle_from, fields_from, Cycled}
-use Rattle.cycle.proofs.Laws.{put_then}
-use Rattle.cycle.proofs.Calls.{prepared_from, ready_first, fields_most, zero_end, zero_part, cycled_end}
+use Rattle.cycle.specs.Rooms.{Ready, fields_from, Cycled}
+use Rattle.cycle.proofs.Calls.{prepared_from, ready_first, fields_most, zero_end, zero_part}
 use Rattle.library_tests.specs.Run.{Asked, CycleOf, SealedAs, WalkOf, TickAs, TickOf, PartOf}
 use Rattle.text_out.specs.Puts as Puts
 use Rattle.library_tests.specs.declared.Walk.{Walk}
 use Rattle.distances.specs.declared.Walked.{Walked}
 use Rattle.distances.specs.Search.{Roomy, Measured}
-
--- ---- a cycle after a cycle: b stays, and so the second's u is the first's
-module _ (l : Levels) (bytes : List ℕ) (count k : ℕ) (e d : List Float) (p : Cycled l bytes count k e d) where
-  pub cycled_same : Cycled l bytes count k d d
-  cycled_same = record { u = p.u ∙ ap (cycle_from l bytes count k) (sym p.b); b = refl; beyond = refl; long = refl }
-
-  pub cycled_then : (x : List Float) → Cycled l bytes count k d x → Cycled l bytes count k e x
-  cycled_then x q = put_then (cells_of l k) (fields_from (base l) count k) _ (λ b u. cycle_from l bytes count k b) p q
-
-  pub ready_after : (s : Lists) (words : List ℕ) → Ready l s count k bytes words (length e) → Ready l s count k bytes words (length d)
-  ready_after s words z = rw p.long z
-
-pub ruleset again = (rules, cycled_same, cycled_then, ready_after, cycled_end)
 
 -- ---- the lists of a cast's levels, with or without openings, are no longer than the levels
 interior_le : (g : Sides) (ls : List ℕ) → interior g ls ≤ cells g

@@ -77,11 +77,6 @@ zeroed_part from n e part h q = cleared_part +0 from n e part h (q ∙ ap (λ z.
 pub front_within : (n i : ℕ) {A : Type 0} (e s : List A) → n ≤ length e → length s ≡ length e → i < n → i < length s
 front_within n i e s h q l = omega arith
 
-pub cleared_by : {A : Type 0} (z : A) (m k : ℕ) (e s : List A) → s ≡ cleared m z e → m ≡ k → s ≡ cleared k z e
-cleared_by z m k e s q h = q ∙ ap (λ i. cleared i z e) h
-
 pub ruleset clears = (ups, zeroed_is, front_within)
 
 pub ruleset needing = (rules, byte_need_is, float_need_is, word_need_is)
-
-pub ruleset needed = (rules, cleared_by)

@@ -26,9 +26,9 @@ use Rattle.smooth.specs.Entries.{AllRead}
 use Rattle.smooth.proofs.EntryLaws.{all_read}
 use Rattle.smooth.proofs.After.{in_air_length}
 use Rattle.cycle.specs.Strokes.{AirList, Ended, Put}
-use Rattle.cycle.specs.Rooms.{Ready, Cycled, fields_from, air_from, AirAt}
+use Rattle.cycle.specs.Rooms.{Ready, Cycled, fields_from, air_from}
 use Rattle.cycle.proofs.Laws.{part_first, lent_is, home_is, end_lent}
-use Rattle.cycle.proofs.Calls.{ready_first, first_air_asked, first_air, fields_most, zero_end, zero_part}
+use Rattle.cycle.proofs.Calls.{ready_first, first_air, fields_most, zero_end, zero_part}
 use Rattle.rounds.specs.declared.Plan.{Plan}
 use Rattle.std.specs.Prelude.{Option}
 use Rattle.acceptance.specs.Trial.{tested}
@@ -80,15 +80,6 @@ inner_is g ls e a b v h q =
     let m : a + length ls - a ≡ cells g = omega arith in
     let k : b + length ls - b ≡ cells g = omega arith in
     q ∙ ap₂ (λ i j. dot g ls (value (take i (drop a e))) (value (take j (drop b e)))) m k
-
-pub inner_done : (g : Sides) (ls : List ℕ) (e : List Float) (a b : ℕ) (v : Float) → Held g ls e → Quiet g ls (take (cells g) (drop a e)) → Quiet g ls (take (cells g) (drop b e))
-    → ((h : Sides) (ms : List ℕ) → length ls ≡ cells h → Quiet h ms (take (a + length ls - a) (drop a e)) → Quiet h ms (take (b + length ls - b) (drop b e))
-    → v ≡ dot h ms (value (take (a + length ls - a) (drop a e))) (value (take (b + length ls - b) (drop b e))))
-    → v ≡ dot g ls (value (take (cells g) (drop a e))) (value (take (cells g) (drop b e)))
-inner_done g ls e a b v z qa qb f =
-    let m : a + length ls - a ≡ cells g = omega (arith, z.labelled) in
-    let k : b + length ls - b ≡ cells g = omega (arith, z.labelled) in
-    inner_is g ls e a b v z.labelled (f g ls z.labelled (rw m qa) (rw k qb))
 
 pub test_is : (g : Sides) (ls : List ℕ) (k : Cast) (t : Settings) (e : List Float) (v : Option ℕ) → length ls ≡ cells g
     → v ≡ tested k t (take (0 * length ls + length ls - 0 * length ls) (drop (0 * length ls) e)) → v ≡ tested k t (x_of (cells g) e)
@@ -154,9 +145,6 @@ rho_is plan bytes words g ls e s rho z d q = record { drawn = rw (z.sides, z.lab
 
 -- ---- t: the list of all air, the zero at the room's end, and what the kernel leaves
 module _ {plan : Plan} {bytes words : List ℕ} {g : Sides} {ls : List ℕ} (e : List Float) (z : Planned plan bytes words g ls (length e)) where
-  pub air_asked : AirAt plan.lists 0 (length words)
-  air_asked = first_air_asked plan.levels plan.lists plan.count bytes words z.prepared.levels
-
   pub air_listed : {es : List ℕ} → es ≡ air_from plan.lists 0 words → AirList g ls es
   air_listed q =
       let len : length (plan_labels plan bytes) ≡ cells (plan_sides plan) = ap length z.labels ∙ z.labelled ∙ ap cells (sym z.sides) in

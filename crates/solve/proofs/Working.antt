@@ -93,8 +93,6 @@ module _ (g : Sides) (ls : List ℕ) (vs : List ℤ) (t : Settings) (e : Result 
       let end : ending k t ≡ failed n o = end_is ∙ ap (λ x. end_of x (rounded k (take (cells g) s))) q ∙ ap₂ failed (sym i) (sym j) in
       record { answer = b ∙ rw (c.interior_is, c.depth_is) refl ∙ sym (ap (answer_of k) end); pressures = sym (ap (pressures_of ps) end) }
 
-pub ruleset running = (rules, run_fit, asked_x, labelled_run, tolerance_run)
-
 -- ---- check 7, and what comes after it
 module _ {g : Sides} {ls : List ℕ} {vs : List ℤ} {t : Settings} {pressures bytes floats words : ℕ} (z : Checked g ls vs t pressures bytes floats words) where
   pub search_room : (room : List ℕ) → length room ≡ words → Roomy g ls room

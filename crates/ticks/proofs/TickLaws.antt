@@ -25,9 +25,6 @@ neg_fits : (n : ℕ) → n < 2 ^ 63 → SFits w64 (neg_ℤ (pos n))
 neg_fits zero h = record { sfits = lit< tt }
 neg_fits (suc n) h = record { sfits = omega arith }
 
-pub below_fits : (n : ℕ) → n < 2 ^ 63 → SFits w64 (pos 0 -ℤ to_z w64 n)
-below_fits n h = rw (above_is n h, zero_less n) (neg_fits n h)
-
 below_is : (n : ℕ) → n < 2 ^ 63 → to_z w64 (of_z w64 (pos 0 -ℤ to_z w64 n)) ≡ neg_ℤ (pos n)
 below_is n h = rw (above_is n h, zero_less n) (to_z-of_z (neg_fits n h))
 

@@ -188,13 +188,7 @@ located (fin false m e) q a b c = go (mid q) (mid_value q (let s : q < 2 ^ 42 = 
       half = at_tie q m e b c n d v;
     }
 
--- ---- what the needs of `raised` and `rounded` ask
-pub raised_up : (b : Bool) (q : ℕ) → b ≡ true → q + 1 ≡ cond b (q + 1) q
-raised_up b q e = rw e
-
-pub raised_not : (b : Bool) (q : ℕ) → b ≡ false → q ≡ cond b (q + 1) q
-raised_not b q e = rw e
-
+-- ---- what the needs of `rounded` ask
 module _ (y : Float) (q : ℕ) (a : lt +0 y ≡ true) (b : lt y beyond ≡ true) (c : q ≡ to_unsigned 64 y) where
   pub near_small : q ≤ 2 ^ 42
   near_small = let s : q < 2 ^ 42 = (located y q a b c).small in omega arith

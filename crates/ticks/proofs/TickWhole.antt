@@ -1,8 +1,8 @@
 -- A tick as a binary64 is exact, so that its tick is itself. Assumes nothing.
-use Rattle.std.proofs.Common.{◌≡◌, ℕ, zero, suc, ◌*◌, ◌^◌, ◌<◌, ◌≤◌, Bool, true, false, T, leb, ℤ, pos, negsuc, nat_abs, sym, refl, ap, ◌∙◌, mul-one, mul-div_cancel, arith, le→leb, lt→ltb, leb→le, to_z-of_z, w64, SFits, to_z, of_z, rules}
+use Rattle.std.proofs.Common.{◌≡◌, ℕ, zero, suc, ◌*◌, ◌^◌, ◌<◌, ◌≤◌, Bool, true, false, leb, ℤ, pos, negsuc, nat_abs, sym, refl, ap, ◌∙◌, mul-one, mul-div_cancel, arith, leb→le, to_z-of_z, w64, SFits, to_z, of_z}
 use native.Mathlib.Nat.{mul-mod_left}
 use lib.Dec.{nleb→lt}
-use lib.Ieee.{Float, nan, inf, fin, binary64, up, down, of_int, in_float, round}
+use lib.Ieee.{Float, nan, inf, fin, binary64, up, down, of_int, round}
 use lib.Ieee.Exact.{HasValue}
 use lib.Ieee.Back.{round_whole}
 use lib.Ieee.Fits.{down_pos}
@@ -36,12 +36,6 @@ pub whole_back : (z : ℤ) → nat_abs z ≤ 2 ^ 41 → whole_of (tick (ofℤ z)
 unfolding whole_of
 whole_back z h = ap whole_of (tick_whole z h)
 
--- ---- what `whole_float` asks of a tick
-pub whole_float : (z : ℤ) → nat_abs z ≤ 2 ^ 41 → T (in_float binary64 z)
-unfolding in_float
-whole_float (pos n) h = le→leb n (2 ^ 53) (omega arith)
-whole_float (negsuc n) h = lt→ltb n (2 ^ 53) (omega arith)
-
 -- ---- every tick is within 2 ^ 41: what `to_tick` gives, `whole_float` takes
 signed_abs : (s : Bool) (n : ℕ) → nat_abs (signed s n) ≡ n
 unfolding signed
@@ -65,10 +59,6 @@ pub tick_again : (x : Float) (z : ℤ) → tick x ≡ Some z → tick (ofℤ z) 
 tick_again x z e = tick_whole z (tick_within x z e) ∙ sym e
 
 -- ---- what `whole_back` asks of what `to_tick` gave
-abs_fits : (z : ℤ) → nat_abs z ≤ 2 ^ 41 → SFits w64 z
-abs_fits (pos n) h = record { sfits = omega arith }
-abs_fits (negsuc n) h = record { sfits = omega arith }
-
 pub back_is : (x : Float) (t : Option ℤ) (r : ℤ) → SFits w64 r → t ≡ tick x → r ≡ unwrap_or t (pos 0) → to_z w64 (of_z w64 r) ≡ whole_of (tick x)
 unfolding whole_of
 back_is x t r f e q = to_z-of_z f ∙ q ∙ go t ∙ ap whole_of e
@@ -76,5 +66,3 @@ back_is x t r f e q = to_z-of_z f ∙ q ∙ go t ∙ ap whole_of e
     go : (u : Option ℤ) → unwrap_or u (pos 0) ≡ whole_of u
     go (Some z) = refl
     go None = refl
-
-pub ruleset wholes = (rules, whole_float)

@@ -3,14 +3,8 @@
 use Rattle.acceptance.proofs.Laws.{gathers}
 use Rattle.acceptance.proofs.gather.Goals as goal
 
-pub neighbours-j-items-requires : goal.neighbours-j-items-requires
-neighbours-j-items-requires c = search gathers
-
 pub loop-j-init : goal.loop-j-init
 loop-j-init c = search gathers
-
-pub visit-a-requires : goal.visit-a-requires
-visit-a-requires c = search gathers
 
 pub loop-j-preserved : goal.loop-j-preserved
 loop-j-preserved c = search gathers

@@ -1,6 +1,6 @@
 -- `acceptance::residual_at` meets its contract: by its four numbers. Assumes nothing.
 use mathlib.Core.Path.{◌≡◌, ap, ◌∙◌}
-use Prim.Native.Nat.{◌≤◌, ◌^◌, ◌*◌}
+use Prim.Native.Nat.{◌^◌, ◌*◌}
 use native.Mathlib.Omega.{arith}
 use lib.IntN.{pos, nat_abs}
 use mir.Syntax.{w64}
@@ -11,15 +11,8 @@ use Rattle.method.specs.Cast.{field}
 use Rattle.signed_numbers.proofs.Laws.{most_fits}
 use Rattle.ticks.proofs.Laws.{residual_made, source_is, gives_residual}
 use Rattle.acceptance.specs.Cells.{rounded_on}
-use Rattle.acceptance.proofs.Laws.{gathers, pressure_is}
+use Rattle.acceptance.proofs.Laws.{pressure_is}
 use Rattle.acceptance.proofs.residual_at.Goals as goal
-
-pub residual_of-requires : goal.residual_of-requires
-residual_of-requires c =
-    let b = source_is (field c.args.values.now c.args.c) c.from-source.result (record { sfits = c.from-arg-1.given }) c.from-source.ensures in
-    let k : nat_abs c.gather-a.result.sum ≤ 2 ^ 44 = omega (arith, c.gather-a.ensures.small) in
-    let h = c.whole_at-own.ensures.small in
-    search gathers
 
 pub returns : goal.returns
 returns c =

@@ -9,14 +9,8 @@ use Rattle.acceptance.proofs.test.Goals as goal
 pub loop-c-init : goal.loop-c-init
 loop-c-init c = search turns
 
-pub refused_at-requires : goal.refused_at-requires
-refused_at-requires c = search turns
-
 pub returns-then-refused_at : goal.returns-then-refused_at
 returns-then-refused_at c = search (refused_fails)
-
-pub worst_at-w-requires : goal.worst_at-w-requires
-worst_at-w-requires c = search turns
 
 pub returns-then-tolerance-w : goal.returns-then-tolerance-w
 returns-then-tolerance-w c = let h : c.args.settings.tolerance < c.worst_at-w.result = omega arith in search (beyond_fails)
@@ -25,9 +19,6 @@ pub loop-c-preserved : goal.loop-c-preserved
 loop-c-preserved c =
     let r = c.refused_at in
     (search turns, none_more _ _ r.result (search turns) r.ensures (search turns), search turns)
-
-pub overflow_cast-result : goal.overflow_cast-result
-overflow_cast-result c = search turns
 
 pub returns : goal.returns
 returns c = let h : c.loop-c.w ≤ c.args.settings.tolerance = omega arith in search (within_passes)

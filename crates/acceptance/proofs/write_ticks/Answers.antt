@@ -7,14 +7,8 @@ use Rattle.acceptance.proofs.write_ticks.Goals as goal
 pub loop-c-init : goal.loop-c-init
 loop-c-init c = search (ups, length-set)
 
-pub write_at-requires : goal.write_at-requires
-write_at-requires c = search (ups, length-set)
-
 pub loop-c-preserved : goal.loop-c-preserved
 loop-c-preserved c = search (ups, length-set)
-
-pub shape_of-pressures : goal.shape_of-pressures
-shape_of-pressures c = search (ups, length-set)
 
 pub returns : goal.returns
 returns c = search (ups, written)

@@ -2,27 +2,6 @@
 use Rattle.library_tests.proofs.Laws.{calling}
 use Rattle.library_tests.proofs.fitted_walk.Goals as goal
 
-pub cell_count-n-requires : goal.cell_count-n-requires
-cell_count-n-requires c = search calling
-
-pub unfit-requires : goal.unfit-requires
-unfit-requires c = search calling
-
-pub returns-then-labels-n : goal.returns-then-labels-n
-returns-then-labels-n c = search calling
-
-pub overflow_mul-n : goal.overflow_mul-n
-overflow_mul-n c = search calling
-
-pub unfit-requires-then-words-n : goal.unfit-requires-then-words-n
-unfit-requires-then-words-n c = search calling
-
-pub returns-then-words-n : goal.returns-then-words-n
-returns-then-words-n c = search calling
-
-pub distances-w-requires : goal.distances-w-requires
-distances-w-requires c = search calling
-
 pub returns-in-Some : goal.returns-in-Some
 returns-in-Some c = search calling
 

@@ -4,17 +4,11 @@ use lib.ListN.{length}
 use Rattle.library_tests.proofs.Laws.{running, run_ready, run_end, run_is}
 use Rattle.library_tests.proofs.run.Goals as goal
 
-pub levels_of-l-requires : goal.levels_of-l-requires
-levels_of-l-requires c = search running
-
 pub all_labels-requires : goal.all_labels-requires
 all_labels-requires c = search running
 
 pub all_lists-s-requires : goal.all_lists-s-requires
 all_lists-s-requires c = search running
-
-pub end_in_zero-requires : goal.end_in_zero-requires
-end_in_zero-requires c = search running
 
 pub cycles-requires : goal.cycles-requires
 cycles-requires c =
@@ -23,15 +17,6 @@ cycles-requires c =
       ready = run_ready a.g a.count a.labels.now a.bytes.now a.words.now (length a.room.now) c.requires _ c.levels_of-l.ensures _ c.all_labels.ensures c.all_labels.auto.bytes _ _ c.all_lists-s.auto.words c.all_lists-s.ensures c.end_in_zero.new.room c.end_in_zero.auto.room;
       ended = run_end a.g a.count a.labels.now a.bytes.now a.words.now (length a.room.now) c.requires _ c.levels_of-l.ensures a.room.now c.end_in_zero.new.room refl c.end_in_zero.ensures;
     }
-
-pub shape_of-room : goal.shape_of-room
-shape_of-room c = search running
-
-pub shape_of-bytes : goal.shape_of-bytes
-shape_of-bytes c = search running
-
-pub shape_of-words : goal.shape_of-words
-shape_of-words c = search running
 
 pub returns : goal.returns
 returns c =

@@ -1,5 +1,5 @@
 -- `right_side::level_at` meets its contract, by the label. Assumes nothing.
-use Prim.Native.Nat.{◌+◌, ◌≤◌, ◌<◌, ◌^◌}
+use Prim.Native.Nat.{◌≤◌, ◌^◌}
 use mathlib.Core.Path.{◌≡◌, ap, ◌∙◌}
 use native.Mathlib.Omega.{arith}
 use borrow.Author.Rules.{rules}
@@ -13,9 +13,6 @@ use Rattle.signed_numbers.proofs.Laws.{abs_32}
 use Rattle.right_side.proofs.Laws.{sides, reads_level, adds_level, adds_none}
 use Rattle.right_side.proofs.level_at.Goals as goal
 
-pub label_at-opening-requires : goal.label_at-opening-requires
-label_at-opening-requires c = search sides
-
 pub bounds-values-j : goal.bounds-values-j
 bounds-values-j c =
     let h = reads_level c.args.labels.now c.args.j c.label_at-opening.result c.label_at-opening.ensures c.args.values.now c.requires.0 c.if-opening.true in
@@ -25,16 +22,6 @@ pub offset_bounds-values-j : goal.offset_bounds-values-j
 offset_bounds-values-j c =
     let h = reads_level c.args.labels.now c.args.j c.label_at-opening.result c.label_at-opening.ensures c.args.values.now c.requires.0 c.if-opening.true in
     search rules
-
-pub plus-requires : goal.plus-requires
-plus-requires c =
-    let v : ℤ = field c.args.values.now c.args.j in
-    let f : SFits w32 v = record { sfits = c.from-arg-1.given } in
-    let e : c.from.result ≡ v = search sides in
-    let b = abs_32 v f in
-    let k : nat_abs c.from.result ≤ 2 ^ 31 = omega (arith, ap nat_abs e) in
-    let h : nat_abs c.args.sum + nat_abs c.from.result < 2 ^ 63 = omega arith in
-    search sides
 
 pub returns-then-opening : goal.returns-then-opening
 returns-then-opening c =

@@ -11,12 +11,6 @@ use Rattle.signed_numbers.proofs.Laws.{abs_32, gives_wide}
 use Rattle.right_side.proofs.Laws.{sides, gathering_end}
 use Rattle.right_side.proofs.whole_at.Goals as goal
 
-pub neighbours-around-requires : goal.neighbours-around-requires
-neighbours-around-requires c = search sides
-
-pub from-b-requires : goal.from-b-requires
-from-b-requires c = search sides
-
 pub loop-i-init : goal.loop-i-init
 loop-i-init c =
     let v : ℤ = field c.args.values.now c.args.c in
@@ -24,9 +18,6 @@ loop-i-init c =
     let e : c.from-b.result ≡ v = search sides in
     let h : nat_abs c.from-b.result ≤ 2 ^ 31 = omega (arith, ap nat_abs e, abs_32 v f) in
     search sides
-
-pub level_at-b-requires : goal.level_at-b-requires
-level_at-b-requires c = search sides
 
 pub loop-i-preserved : goal.loop-i-preserved
 loop-i-preserved c = search sides

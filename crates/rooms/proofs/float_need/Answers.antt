@@ -2,11 +2,5 @@
 use Rattle.rooms.proofs.Clears.{needing}
 use Rattle.rooms.proofs.float_need.Goals as goal
 
-pub overflow_mul-result : goal.overflow_mul-result
-overflow_mul-result c = search needing
-
-pub overflow_add-result : goal.overflow_add-result
-overflow_add-result c = search needing
-
 pub returns : goal.returns
 returns c = search needing

@@ -1,24 +1,11 @@
 -- `rounds::rounds` meets its contract: after so many rounds, as many are left as the limit allows. Assumes nothing.
 use mathlib.Core.Path.{refl, ◌∙◌}
 use Rattle.rounds.proofs.Calm.{scaled_calm, scaled_t, advanced_calm, go_finite}
-use Rattle.rounds.proofs.Budget.{budget, left_none, left_pass, left_stall, left_more, left_last, left_end, held_ready}
+use Rattle.rounds.proofs.Budget.{left_pass, left_stall, left_more, left_last, left_end, held_ready}
 use Rattle.rounds.proofs.rounds.Goals as goal
-
-pub loop-done-init : goal.loop-done-init
-unfolding lib.Ieee.of_bits
-loop-done-init c = record { calm = c.requires.calm; left = left_none _ _ _ _ _ }
-
-pub test_x-requires : goal.test_x-requires
-test_x-requires c = search budget
 
 pub returns-in-Some : goal.returns-in-Some
 returns-in-Some c = left_pass _ _ _ _ _ _ _ _ c.loop-done.invariant.left _ c.test_x.ensures _ _ c.in-Some.is refl
-
-pub scalars_of-q-requires : goal.scalars_of-q-requires
-scalars_of-q-requires c = record {
-  planned = search budget;
-  calm = c.loop-done.invariant.calm;
-}
 
 pub returns-in-Err : goal.returns-in-Err
 returns-in-Err c = left_stall _ _ _ _ _ _ _ _ c.loop-done.invariant.left _ c.test_x.ensures _ _ _ _ c.requires.ready c.loop-done-test.true c.in_default.is _ _ c.scalars_of-q.ensures _ c.step_of.ensures _ _ c.in-Err.is refl
@@ -36,9 +23,6 @@ loop-done-preserved c = record {
   calm = advanced_calm (scaled_calm c.scalars_of-q.ensures c.loop-done.invariant.calm) c.move_on.ensures;
   left = left_more _ _ _ _ _ _ _ _ c.loop-done.invariant.left _ c.test_x.ensures _ _ _ _ c.requires.ready c.loop-done-test.true c.in_default.is _ _ c.scalars_of-q.ensures _ c.step_of.ensures _ _ c.in-Ok.is c.move_on.ensures;
 }
-
-pub test_x-requires-2 : goal.test_x-requires-2
-test_x-requires-2 c = search budget
 
 pub returns-in-Some-test_x : goal.returns-in-Some-test_x
 returns-in-Some-test_x c = left_last _ _ _ _ _ _ _ _ c.loop-done.invariant.left _ c.test_x-2.ensures _ _ c.loop-done-test.false c.loop-done.auto.done-end c.in-Some-test_x.is refl

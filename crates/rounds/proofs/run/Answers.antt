@@ -2,9 +2,6 @@ use mathlib.Core.Path.{refl}
 use Rattle.rounds.proofs.Budget.{budget, held_ready, start_calm}
 use Rattle.rounds.proofs.run.Goals as goal
 
-pub start-requires : goal.start-requires
-start-requires c = search budget
-
 pub rounds-requires : goal.rounds-requires
 rounds-requires c =
     let a = c.args in

@@ -4,10 +4,6 @@ use Rattle.laws.specs.Whole.{◌+ᶻ◌, neg}
 use Rattle.signed_numbers.proofs.Laws.{diff_fits}
 use Rattle.signed_numbers.proofs.minus.Goals as goal
 
-pub overflow_sub-result : goal.overflow_sub-result
-unfolding ◌+ᶻ◌ neg
-overflow_sub-result c = let f = diff_fits c.args.a c.args.b c.requires in search rules
-
 pub returns : goal.returns
 unfolding ◌+ᶻ◌ neg
 returns c = let f = diff_fits c.args.a c.args.b c.requires in search rules

@@ -4,10 +4,6 @@ use Rattle.laws.specs.Whole.{◌+ᶻ◌}
 use Rattle.signed_numbers.proofs.Laws.{sum_fits}
 use Rattle.signed_numbers.proofs.plus.Goals as goal
 
-pub overflow_add-result : goal.overflow_add-result
-unfolding ◌+ᶻ◌
-overflow_add-result c = let f = sum_fits c.args.a c.args.b c.requires in search rules
-
 pub returns : goal.returns
 unfolding ◌+ᶻ◌
 returns c = let f = sum_fits c.args.a c.args.b c.requires in search rules

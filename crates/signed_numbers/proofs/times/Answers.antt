@@ -4,12 +4,6 @@ use Rattle.laws.specs.Whole.{◌*ᶻ◌}
 use Rattle.signed_numbers.proofs.Laws.{product_fits, unsigned}
 use Rattle.signed_numbers.proofs.times.Goals as goal
 
-pub overflow_mul-result : goal.overflow_mul-result
-unfolding ◌*ᶻ◌
-overflow_mul-result c =
-    let f = product_fits c.args.d c.args.a c.requires.0 c.requires.1 in
-    rw (unsigned c.args.d c.requires.0) (search rules)
-
 pub returns : goal.returns
 unfolding ◌*ᶻ◌
 returns c =

@@ -1,11 +1,8 @@
 -- `solve::run` meets its contract: the rounds, and the pressures and the worst cell where they are accepted. Assumes
 -- nothing.
 use borrow.Author.Rules.{rules}
-use Rattle.solve.proofs.Working.{running, asked_x, labelled_run, tolerance_run, sought, ran_accepted, ran_unfinished}
+use Rattle.solve.proofs.Working.{asked_x, labelled_run, tolerance_run, sought, ran_accepted, ran_unfinished}
 use Rattle.solve.proofs.run.Goals as goal
-
-pub write_ticks-requires : goal.write_ticks-requires
-write_ticks-requires c = search running
 
 pub worst_of-at-requires : goal.worst_of-at-requires
 worst_of-at-requires c = sought _ _ _ _ _ _ c.run.ensures _ c.in-Ok.is (labelled_run c.requires) (tolerance_run c.requires) (asked_x c.requires _ (search rules))

@@ -5,9 +5,6 @@ use Rattle.solve.proofs.work.Goals as goal
 pub distances-walked-requires : goal.distances-walked-requires
 distances-walked-requires c = search working
 
-pub interior-requires : goal.interior-requires
-interior-requires c = search working
-
 pub prepare-plan-requires : goal.prepare-plan-requires
 prepare-plan-requires c = prepare_asked c.requires _ c.distances-walked.ensures.sealed_is c.in-None.is c.distances-walked.new.room c.distances-walked.auto.room
 

@@ -1,12 +1,9 @@
 -- `rounds::scalars::aim` meets its contract: the kernel promises it for every cast, and so for the one whose labels are
 -- at hand. Assumes nothing.
 use borrow.Author.Rules.{rules}
-use Rattle.rounds.proofs.Turns.{air_asked, air_listed}
+use Rattle.rounds.proofs.Turns.{air_listed}
 use Rattle.rounds.proofs.Calm.{air_in_lem, five_in}
 use Rattle.rounds.proofs.scalars.aim.Goals as goal
-
-pub level_air-air-requires : goal.level_air-air-requires
-level_air-air-requires c = search (rules, air_asked)
 
 pub aim-requires : goal.aim-requires
 aim-requires c = record {

@@ -1,19 +1,9 @@
 -- `rounds::scalars::apply` meets its contract: the kernel promises it for every cast, and so for the one whose labels
 -- are at hand. Assumes nothing.
-use native.Mathlib.Omega.{arith}
 use borrow.Author.Rules.{rules}
 use Rattle.smooth.proofs.EntryLaws.{lattices, lattice_before}
-use Rattle.rounds.proofs.Turns.{fit_planned, air_asked, air_listed, zero_read, air_read, five_before, applied_is}
+use Rattle.rounds.proofs.Turns.{air_listed, zero_read, air_read, five_before, applied_is}
 use Rattle.rounds.proofs.scalars.apply.Goals as goal
-
-pub level_air-air-requires : goal.level_air-air-requires
-level_air-air-requires c = search (rules, air_asked)
-
-pub of-lattice-requires : goal.of-lattice-requires
-of-lattice-requires c = record {
-  fit = fit_planned c.requires;
-  some = omega (arith, c.requires.prepared.roomy);
-}
 
 pub apply-requires : goal.apply-requires
 apply-requires c = record {

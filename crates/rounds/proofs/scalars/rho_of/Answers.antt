@@ -8,6 +8,3 @@ inner-requires c = record {
   quiet = search calm;
   quiet_2 = search calm;
 }
-
-pub returns : goal.returns
-returns c = search turns

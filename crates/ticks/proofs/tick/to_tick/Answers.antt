@@ -10,10 +10,6 @@ pub returns-then-x : goal.returns-then-x
 unfolding lib.Ieee.of_bits
 returns-then-x c = search (low_tick)
 
-pub size_of-requires-then-x-2 : goal.size_of-requires-then-x-2
-unfolding lib.Ieee.of_bits
-size_of-requires-then-x-2 c = search ticking
-
 pub returns-then-x-2 : goal.returns-then-x-2
 unfolding lib.Ieee.of_bits
 returns-then-x-2 c = search (high_tick)
