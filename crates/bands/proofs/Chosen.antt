@@ -10,8 +10,6 @@ use borrow.Author.Rules.{rules}
 use borrow.Author.Tests.{eq-eqb, ne_eqb, lt-ltb, le-ltb, le-leb, lt-leb}
 use lib.Dec.{eqb}
 use lib.ListN.{length, set, length-append, length-map}
-use mir.Syntax.{w64}
-use mir.Val.{Fits}
 use Rattle.laws.specs.Loops.{up}
 use Rattle.laws.specs.Lists.{kept, chosen}
 use Rattle.method.specs.declared.Sides.{Sides}
@@ -35,6 +33,10 @@ map_both : {A B : Type 0} (f : A → B) (l m : List A) → map f (l ++ m) ≡ ma
 map_both f [] m = refl
 map_both f (x ∷ l) m = ap (λ r. f x ∷ r) (map_both f l m)
 
+-- what was lent to a filling comes back: what holds of the words that the filling has holds of them
+pub comes_back : {N : Type 0} {n m : N} {x y : List ℕ} (P : List ℕ → Type 0) → m ≡ n → P y → (n ≡ m → x ≡ y) → P x
+comes_back P same p back = rw (back (sym same)) p
+
 -- ---- one cell
 kept_one : (b : Bool) (n : ℕ) → length (kept b n) ≡ cond b 1 0
 unfolding kept
@@ -45,9 +47,6 @@ module _ (yes : Bool) (c next : ℕ) where
   pub keep_in : (n : ℕ) → yes ≡ true → next + length (kept yes c) ≤ n → next < n
   keep_in n e h = let k : length (kept yes c) ≡ 1 = kept_one yes c ∙ ap (λ b. cond b 1 0) e in omega arith
 
-  pub keep_fits : (n : ℕ) → yes ≡ true → next + length (kept yes c) ≤ n → Fits w64 n → Fits w64 (next + 1)
-  keep_fits n e h f = omega (arith, keep_in n e h)
-
   pub placed_one : (f : ℕ → ℕ) (v : ℕ) (e : List ℕ) → yes ≡ true → v ≡ f c → next + length (kept yes c) ≤ length e → Placed f e next (kept yes c) (next + 1) (set e next v)
   unfolding kept
   placed_one f v e t q h = rw t (record { next = refl; room = ap (set e next) q ∙ set_written e next (f c) (keep_in (length e) t h) })
@@ -55,13 +54,6 @@ module _ (yes : Bool) (c next : ℕ) where
   pub placed_none : (f : ℕ → ℕ) (e : List ℕ) → yes ≡ false → Placed f e next (kept yes c) next e
   unfolding kept
   placed_none f e t = rw t (record { next = omega arith; room = written_none e next })
-
-  module _ (b : Bool) (h : yes ≡ b) where
-    pub kept_same : (n : ℕ) → next + length (kept b c) ≤ n → next + length (kept yes c) ≤ n
-    kept_same n l = rw h l
-
-    pub placed_same : (f : ℕ → ℕ) (e s : List ℕ) (r : ℕ) → Placed f e next (kept yes c) r s → Placed f e next (kept b c) r s
-    placed_same f e s r p = rw h at p
 
 -- ---- how many pass
 module _ (p : ℕ → Bool) where
@@ -127,7 +119,7 @@ strung_up : (f : ℕ → List ℕ) (i n : ℕ) → i ≤ n → length (strung f 
 strung_up f i n h = let q : n - i + i ≡ n = omega arith in rw q at (strung_grows f i (n - i))
 
 module _ (F : ℕ → ℕ) (f : ℕ → List ℕ) (e : List ℕ) (a n : ℕ) (h : a + length (strung f n) ≤ length e) (i r : ℕ) (s : List ℕ) (u : Placed F e a (strung f i) r s) where
-  pub strung_same : i ≤ n → length s ≡ length e
+  strung_same : i ≤ n → length s ≡ length e
   strung_same k = ap length u.room ∙ length_written e a (map F (strung f i)) (omega (arith, length-map (strung f i) F, strung_up f i n k))
 
   -- there is a place for the next
@@ -137,9 +129,6 @@ module _ (F : ℕ → ℕ) (f : ℕ → List ℕ) (e : List ℕ) (a n : ℕ) (h 
 
   pub strung_more : (r' : ℕ) (s' : List ℕ) → Placed F s r (f i) r' s' → Placed F e a (strung f (i + 1)) r' s'
   strung_more r' s' v = rw add-one (strung_next F f e a i r r' s s' (omega arith) u v)
-
-  pub strung_end : i ≤ n → n ≤ i → Placed F e a (strung f n) r s
-  strung_end k l = let q : i ≡ n = omega arith in rw q at u
 
 -- ---- the cell of wave w at j and k
 module _ (g : Sides) (p : ℕ → Bool) (w k j : ℕ) where
@@ -186,9 +175,18 @@ module _ (f : ℕ → ℕ) (g : Sides) (p : ℕ → Bool) (e : List ℕ) (a : �
       → r + length (wave_line g p w k) ≤ length s
   line_room w k h u l = strung_room f (wave_line g p w) e a g.nz h k r s u l
 
-  pub wave_room : (w : ℕ) → a + length (strung (wave_of g p) (g.nx + g.ny + g.nz)) ≤ length e → Placed f e a (strung (wave_of g p) w) r s → w < g.nx + g.ny + g.nz
-      → r + length (wave_of g p w) ≤ length s
-  wave_room w h u l = strung_room f (wave_of g p) e a (g.nx + g.ny + g.nz) h w r s u l
+  module _ (w : ℕ) (u : Placed f e a (strung (wave_of g p) w) r s) where
+    pub wave_room : a + length (waves g p) ≤ length e → w < g.nx + g.ny + g.nz → r + length (wave_of g p w) ≤ length s
+    unfolding waves
+    wave_room h l = strung_room f (wave_of g p) e a (g.nx + g.ny + g.nz) h w r s u l
+
+    pub wave_more : a + length (waves g p) ≤ length e → (r' : ℕ) (s' : List ℕ) → Placed f s r (wave_of g p w) r' s' → Placed f e a (strung (wave_of g p) (w + 1)) r' s'
+    unfolding waves
+    wave_more h r' s' v = strung_more f (wave_of g p) e a (g.nx + g.ny + g.nz) h w r s u r' s' v
+
+    pub wave_end : w ≤ g.nx + g.ny + g.nz → g.nx + g.ny + g.nz ≤ w → Placed f e a (waves g p) r s
+    unfolding waves
+    wave_end k l = let q : w ≡ g.nx + g.ny + g.nz = omega arith in rw q at u
 
 -- ---- a level's list is no longer than it has air cells
 smoothed_air : (b : Bool) (g : Sides) (ls : List ℕ) → Within (smoothed b g ls) (is_air ls)
@@ -210,16 +208,12 @@ listed : (f : ℕ → ℕ) (e : List ℕ) (a : ℕ) (l : List ℕ) (r : ℕ) (s 
 listed f e a l r s u = record { count = omega (arith, u.next, length-map l f); room = u.room }
 
 module _ (g : Sides) (ls e : List ℕ) (a : ℕ) (b : Bool) where
-  pub list_room : a + interior g ls ≤ length e → a + length (strung (wave_of g (smoothed b g ls)) (g.nx + g.ny + g.nz)) ≤ length e
-  unfolding list_of waves
+  pub list_room : a + interior g ls ≤ length e → a + length (waves g (smoothed b g ls)) ≤ length e
+  unfolding list_of
   list_room h = omega (arith, list_le b g ls, length-map (waves g (smoothed b g ls)) (entry_of g ls))
 
-  pub list_more : a + interior g ls ≤ length e → (w r r' : ℕ) (s s' : List ℕ) → Placed (entry_of g ls) e a (strung (wave_of g (smoothed b g ls)) w) r s
-      → Placed (entry_of g ls) s r (wave_of g (smoothed b g ls) w) r' s' → Placed (entry_of g ls) e a (strung (wave_of g (smoothed b g ls)) (w + 1)) r' s'
-  list_more h w r r' s s' u v = strung_more (entry_of g ls) (wave_of g (smoothed b g ls)) e a (g.nx + g.ny + g.nz) (list_room h) w r s u r' s' v
-
-  pub list_listed : (r : ℕ) (s : List ℕ) → Placed (entry_of g ls) e a (strung (wave_of g (smoothed b g ls)) (g.nx + g.ny + g.nz)) r s → Listed e a (list_of b g ls) (r - a) s
-  unfolding list_of waves
+  pub list_listed : (r : ℕ) (s : List ℕ) → Placed (entry_of g ls) e a (waves g (smoothed b g ls)) r s → Listed e a (list_of b g ls) (r - a) s
+  unfolding list_of
   list_listed r s p = listed (entry_of g ls) e a (waves g (smoothed b g ls)) r s p
 
 -- ---- what is left
@@ -261,17 +255,13 @@ module _ (g : Sides) (ls e : List ℕ) (a : ℕ) (b : Bool) (h : a + length (cho
       pub left_next : c < n → r + length (left_at b g ls c) ≤ length s
       left_next l = strung_room (entry_of g ls) (left_at b g ls) e a (cells g) left_room c r s u (omega arith)
 
-      pub left_same : c ≤ n → length s ≡ length e
-      left_same l = strung_same (entry_of g ls) (left_at b g ls) e a (cells g) left_room c r s u (omega arith)
-
-      pub left_listed : c ≤ n → n ≤ c → Listed e a (left_of b g ls) (r - a) s
-      unfolding left_of
-      left_listed k l =
+      pub left_end : c ≤ n → n ≤ c → Placed (entry_of g ls) e a (chosen (left b g ls) (cells g)) r s
+      left_end k l =
           let o : c ≡ cells g = omega arith in
           let w : Placed (entry_of g ls) e a (strung (left_at b g ls) (cells g)) r s = rw o at u in
-          listed (entry_of g ls) e a (chosen (left b g ls) (cells g)) r s (rw chosen_strung w)
+          rw chosen_strung w
 
-pub ruleset on_left = (rules, strung_none, left_next, left_same, left_more, left_listed)
+pub ruleset on_left = (rules, strung_none, left_next, left_more, left_end)
 
 -- ---- all air: what is swept and what is left are no more than the air
 chosen_both : (p q : ℕ → Bool) → Within p q → (n : ℕ) → length (chosen p n) + length (chosen (λ c. q c && not (p c)) n) ≤ length (chosen q n)
@@ -304,30 +294,45 @@ module _ (b : Bool) (g : Sides) (ls : List ℕ) where
   pub air_le : length (air_of b g ls) ≤ interior g ls
   air_le = omega (arith, length-append (list_of b g ls) (left_of b g ls), left_long, both_le)
 
-  module _ (a r : ℕ) (e s : List ℕ) (h : a + interior g ls ≤ length e) (u : Listed e a (list_of b g ls) r s) where
-    pub rest_fits : Fits w64 (length e) → Fits w64 (a + r)
-    rest_fits f = omega (arith, u.count, both_le)
+  module _ (a r : ℕ) (e s : List ℕ) (u : Placed (entry_of g ls) e a (waves g (smoothed b g ls)) r s) where
+    swept_listed : Listed e a (list_of b g ls) (r - a) s
+    swept_listed = list_listed g ls e a b r s u
 
-    pub rest_room : length s ≡ length e → a + r + length (chosen (left b g ls) (cells g)) ≤ length s
-    rest_room k = omega (arith, u.count, both_le)
+    pub swept_after : a ≤ r
+    swept_after = omega (arith, u.next)
 
-    module _ (q : ℕ) (t : List ℕ) (v : Listed s (a + r) (left_of b g ls) q t) where
-      pub air_count : r + q ≤ length e
-      air_count = omega (arith, u.count, v.count, left_long, both_le)
+    module _ (h : a + interior g ls ≤ length e) where
+      pub rest_room : r + length (chosen (left b g ls) (cells g)) ≤ length s
+      rest_room =
+          let same : length s ≡ length e = ap length swept_listed.room ∙ length_written e a (list_of b g ls) (omega (arith, both_le)) in
+          omega (arith, swept_after, swept_listed.count, both_le, same)
 
-      pub air_listed : LevelListed e a (list_of b g ls) (air_of b g ls) (record { start = a; swept = r; air = r + q }) t
-      air_listed =
-          let long : r + q ≡ length (air_of b g ls) = omega (arith, u.count, v.count, length-append (list_of b g ls) (left_of b g ls)) in
-          record {
-            start = refl;
-            count = u.count;
-            whole = long;
-            room =
-                v.room ∙ ap₂ (λ x k. written x (a + k) (left_of b g ls)) u.room u.count
-                ∙ written_on e a (list_of b g ls) (omega arith) (left_of b g ls);
-          }
+      module _ (q : ℕ) (t : List ℕ) (v : Placed (entry_of g ls) s r (chosen (left b g ls) (cells g)) q t) where
+        rest_listed : Listed s r (left_of b g ls) (q - r) t
+        unfolding left_of
+        rest_listed = listed (entry_of g ls) s r (chosen (left b g ls) (cells g)) q t v
 
-pub ruleset airs = (rules, rest_fits, rest_room, air_listed)
+        pub air_after : a ≤ q
+        air_after = omega (arith, u.next, v.next)
+
+        pub air_next : q ≡ a + (q - a)
+        air_next = omega (arith, air_after)
+
+        pub air_listed : LevelListed e a (list_of b g ls) (air_of b g ls) (record { start = a; swept = r - a; air = q - a }) t
+        air_listed = record {
+          start = refl;
+          count = swept_listed.count;
+          whole = omega (arith, u.next, v.next, swept_listed.count, rest_listed.count, length-append (list_of b g ls) (left_of b g ls));
+          room =
+              rest_listed.room
+              ∙ ap₂ (λ x k. written x k (left_of b g ls)) swept_listed.room place
+              ∙ written_on e a (list_of b g ls) (omega arith) (left_of b g ls);
+        }
+          where
+            place : r ≡ a + length (list_of b g ls)
+            place = omega (arith, swept_after, swept_listed.count)
+
+pub ruleset airs = (rules, list_room, swept_after, rest_room, air_after, air_next, air_listed)
 
 -- ---- what the calls ask
 pub band_asked : (g h : Sides) (n m c : ℕ) → Fit g → h ≡ halved g → n ≡ cells g → m ≡ cells h → c < n → BandAsked g h n m c
@@ -344,12 +349,12 @@ pub air_smoothed : (g : Sides) (ls : List ℕ) (b : Bool) (c l : ℕ) → b ≡ 
 unfolding smoothed is_air
 air_smoothed g ls b c l e h = rw (e, h) refl
 
-pub ruleset keeps = (rules, keep_in, keep_fits, placed_one, placed_none, kept_same, placed_same)
+pub ruleset keeps = (rules, keep_in, placed_one, placed_none)
 
 pub ruleset smoothes = (rules, next_fit, band_asked, band_smoothed, air_smoothed)
 
-pub ruleset on_waves = (rules, strung_none, strung_same, strung_more, strung_end, early_placed, late_placed, wave_in, wave_placed, smoothed_room, cell_room, line_room)
+pub ruleset on_waves = (rules, strung_none, strung_more, early_placed, late_placed, wave_in, wave_placed, smoothed_room, cell_room, line_room)
 
-pub ruleset on_lists = (rules, strung_none, strung_same, strung_end, wave_room, list_room, list_more, list_listed)
+pub ruleset on_lists = (rules, strung_none, wave_room, wave_more, wave_end, list_room, list_listed)
 
 pub ruleset lefts = (rules, left_other, left_band, left_off, left_none)

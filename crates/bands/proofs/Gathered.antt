@@ -7,8 +7,6 @@ use native.Mathlib.Omega.{arith}
 use borrow.Author.Rules.{rules}
 use lib.Dec.{ltb}
 use lib.ListN.{length, take, drop, set, replicate, length-append}
-use mir.Syntax.{w64}
-use mir.Val.{Fits}
 use Rattle.method.specs.declared.Sides.{Sides}
 use Rattle.method.specs.Cast.{cells, interior}
 use Rattle.theory.specs.Levels.{sides_at, labels_at, cells_before, air_before}
@@ -142,25 +140,12 @@ module _ (l : Levels) (count : ℕ) (bytes e : List ℕ) (a : ListsAsked l count
         }
 
     module _ (n : LevelList) (s' : List ℕ) (h : k < count) (w : LevelListed s next (list_in l count bytes k) (air_in l count bytes k) n s') where
-      pub gathering_more : Gathering B L count e (k + 1) (set lists k n) (next + n.air) s'
-      gathering_more = rw add-one (gathering_suc B L count e s s' k lists next n (omega (arith, a.most)) u (rw (list_is k h, air_is k h) at w))
-
-      pub gathering_fits : Fits w64 (length e) → Fits w64 (next + n.air)
-      unfolding lists_before
-      gathering_fits f = omega (
-        arith,
-        u.after,
-        w.whole,
-        ap length (air_is k h),
-        length-append (lists_before B L count k) (air_at B L count k),
-        before_le B L count (suc k),
-        air_up_to B L count (suc k) count h,
-        a.room,
-      )
+      pub gathering_more : (after : ℕ) → after ≡ next + n.air → Gathering B L count e (k + 1) (set lists k n) after s'
+      gathering_more after q = rw (q, add-one) (gathering_suc B L count e s s' k lists next n (omega (arith, a.most)) u (rw (list_is k h, air_is k h) at w))
 
     pub gathering_end : k ≤ count → count ≤ k → AllListed B L count e lists s
     gathering_end h h' =
         let q : k ≡ count = omega arith in
         record { lists = u.are ∙ ap (lists_to B L count) q; room = u.room ∙ ap (λ n. written e 0 (lists_before B L count n)) q }
 
-pub ruleset gatherings = (rules, gathering_none, gathering_asks, gathering_more, gathering_fits, gathering_end)
+pub ruleset gatherings = (rules, gathering_none, gathering_asks, gathering_more, gathering_end)

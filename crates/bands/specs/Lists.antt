@@ -1,11 +1,12 @@
 -- The cells that are smoothed on a level, and how they are written down.
-use Rattle.std.specs.Prelude.{ℕ, ◌+◌, ◌≡◌, Bool, true, false, not, ◌&&◌, List, ◌++◌, map, length}
+use Rattle.std.specs.Prelude.{ℕ, ◌+◌, ◌≤◌, ◌≡◌, Bool, true, false, not, ◌&&◌, List, ◌++◌, map, length}
 use Rattle.laws.specs.Lists.{kept, chosen}
 use Rattle.method.specs.declared.Sides.{Sides}
 use Rattle.method.specs.Cast.{cells, is_air}
 use Rattle.method.specs.Cycle.{in_band}
 use Rattle.theory.specs.Waves.{waves}
 use Rattle.grid.specs.Entries.{entry_of}
+use Rattle.bands.specs.declared.lists.Filling.{Filling}
 use Rattle.bands.specs.declared.lists.LevelList.{LevelList}
 use Rattle.levels.specs.Rooms.{written}
 
@@ -47,3 +48,17 @@ pub record LevelListed (e : List ℕ) (a : ℕ) (swept all : List ℕ) (r : Leve
   pub count : r.swept ≡ length swept
   pub whole : r.air ≡ length all
   pub room : s ≡ written e a all
+
+-- a filling has room for so many words more
+abbrev pub Room : ℕ → Filling → Type 0
+Room n s = s.next + n ≤ length s.words.now
+
+-- what f makes of the cells l is filled in: it stands from the next place on, and the next place is the one after it, in
+-- the same lent room
+abbrev pub Fills : (ℕ → ℕ) → List ℕ → Filling → Filling → Type 0
+Fills f l s t = (t.words.ghost_name ≡ s.words.ghost_name) × Placed f s.words.now s.next l t.next t.words.now
+
+-- the same of all of a level's list, and r says where it starts, how much of it is swept, and how long it is
+abbrev pub LevelFills : List ℕ → List ℕ → Filling → LevelList → Filling → Type 0
+LevelFills swept all s r t =
+    (t.words.ghost_name ≡ s.words.ghost_name) × (t.next ≡ s.next + r.air) × LevelListed s.words.now s.next swept all r t.words.now

@@ -4,12 +4,12 @@ ghost use Rattle.std.specs.Prelude.{◌≡◌, ◌+◌, ◌≤◌, ◌<◌, leng
 ghost use Rattle.laws.specs.Lists.{kept, chosen};
 ghost use Rattle.method.specs.Cast.{cells, is_air, interior};
 ghost use Rattle.method.specs.Cycle.{in_band};
-ghost use Rattle.theory.specs.Waves.{wave_cell, wave_line, wave_of};
+ghost use Rattle.theory.specs.Waves.{wave_cell, wave_line, wave_of, waves};
 ghost use Rattle.theory.specs.Sides.{Fit};
 ghost use Rattle.grid.specs.Entries.{entry_of};
 ghost use Rattle.bands.specs.Other.{BandAsked};
 ghost use Rattle.levels.specs.Levels.{base};
-ghost use Rattle.bands.specs.Lists.{Placed, Listed, LevelListed, smoothed, list_of, left, left_at, left_of, air_of};
+ghost use Rattle.bands.specs.Lists.{Room, Fills, LevelFills, Listed, smoothed, list_of, left, left_at, air_of};
 ghost use Rattle.bands.specs.AllLists.{list_in, air_in, base_labels, LevelAsked, ListsAsked, AllListed};
 
 use levels::sides::Levels;
@@ -28,20 +28,6 @@ pub type Lists = [LevelList; 6];
 
 // Kept: labels, g and band go from function to function. A struct of the three holds a `&`, so that each `ensures` would
 // have to write `l.entry.labels.now` for `labels.now`.
-
-// The entry of cell c is written to the next place if the cell is to be kept. The next place comes back.
-fn keep(words: &mut [u32], next: usize, labels: &[u8], g: Sides, c: usize, yes: bool) -> usize
-    requires fit { Fit g }
-    requires c_bound { (c < cells g) × (next + length (kept yes c) ≤ length words.old) }
-    ensures { Placed (entry_of g labels.now) words.old next (kept yes c) result words.new }
-{
-    if yes {
-        let n = grid::place::cell_count(g);
-        words[next] = grid::entry::entry_of(labels, g, n, c);
-        return next + 1;
-    }
-    next
-}
 
 // Whether cell c is in the band.
 fn is_in_band(labels: &[u8], g: Sides, c: usize) -> bool
@@ -68,94 +54,6 @@ fn is_smoothed(labels: &[u8], g: Sides, band: bool, c: usize) -> bool
     }
 }
 
-// Cell c, if it is to be smoothed.
-fn keep_cell(words: &mut [u32], next: usize, labels: &[u8], g: Sides, band: bool, c: usize) -> usize
-    requires fit { Fit g }
-    requires c_bound { (c < cells g) × (next + length (kept (smoothed band g labels.now c) c) ≤ length words.old) }
-    ensures { Placed (entry_of g labels.now) words.old next (kept (smoothed band g labels.now c) c) result words.new }
-{
-    keep(words, next, labels, g, c, is_smoothed(labels, g, band, c))
-}
-
-// The cell of wave w at j and k, if there is one and it is to be smoothed.
-fn keep_at(
-    words: &mut [u32],
-    next: usize,
-    labels: &[u8],
-    g: Sides,
-    band: bool,
-    w: usize,
-    k: usize,
-    j: usize,
-) -> usize
-    requires fit { Fit g }
-    requires j_lt_ny { (j < g.ny) × (k < g.nz) }
-    requires j_in_bounds { next + length (wave_cell g (smoothed band g labels.now) w k j) ≤ length words.old }
-    ensures { Placed (entry_of g labels.now) words.old next (wave_cell g (smoothed band g labels.now) w k j) result words.new }
-{
-    let near = j + k;
-    if w < near {
-        return next;
-    }
-    let i = w - near;
-    if g.nx as usize <= i {
-        return next;
-    }
-    let c = grid::place::number_of(g, i, j, k);
-    keep_cell(words, next, labels, g, band, c)
-}
-
-// Those of wave w at k.
-fn keep_line(
-    words: &mut [u32],
-    at: usize,
-    labels: &[u8],
-    g: Sides,
-    band: bool,
-    w: usize,
-    k: usize,
-) -> usize
-    requires fit { Fit g }
-    requires k_lt_nz { k < g.nz }
-    requires k_in_bounds { at + length (wave_line g (smoothed band g labels.now) w k) ≤ length words.old }
-    ensures { Placed (entry_of g labels.now) words.old at (wave_line g (smoothed band g labels.now) w k) result words.new }
-{
-    let n = g.ny as usize;
-    let mut next = at;
-    for j in 0..n {
-        next = keep_at(words, next, labels, g, band, w, k, j);
-    }
-    next
-}
-
-// All of wave w.
-fn keep_wave(words: &mut [u32], at: usize, labels: &[u8], g: Sides, band: bool, w: usize) -> usize
-    requires fit { Fit g }
-    requires w_in_bounds { at + length (wave_of g (smoothed band g labels.now) w) ≤ length words.old }
-    ensures { Placed (entry_of g labels.now) words.old at (wave_of g (smoothed band g labels.now) w) result words.new }
-{
-    let n = g.nz as usize;
-    let mut next = at;
-    for k in 0..n {
-        next = keep_line(words, next, labels, g, band, w, k);
-    }
-    next
-}
-
-// The cells of a level of sides g that are to be smoothed, wave by wave, from place `at` on; how many they are.
-pub fn wave_list(words: &mut [u32], at: usize, labels: &[u8], g: Sides, band: bool) -> usize
-    requires fit { Fit g }
-    requires labels_in_bounds { at + interior g labels.now ≤ length words.old }
-    ensures { Listed words.old at (list_of band g labels.now) result words.new }
-{
-    let n = (g.nx as usize) + (g.ny as usize) + (g.nz as usize);
-    let mut next = at;
-    for w in 0..n {
-        next = keep_wave(words, next, labels, g, band, w);
-    }
-    next - at
-}
-
 // Whether cell c is air that is left: off the band, where there is one.
 fn is_left(labels: &[u8], g: Sides, band: bool, c: usize) -> bool
     requires fit { Fit g }
@@ -175,61 +73,154 @@ fn is_left(labels: &[u8], g: Sides, band: bool, c: usize) -> bool
     false
 }
 
-// Cell c, if it is left.
-fn keep_left(words: &mut [u32], next: usize, labels: &[u8], g: Sides, band: bool, c: usize) -> usize
-    requires fit { Fit g }
-    requires c_bound { (c < cells g) × (next + length (left_at band g labels.now c) ≤ length words.old) }
-    ensures { Placed (entry_of g labels.now) words.old next (left_at band g labels.now c) result words.new }
-{
-    keep(words, next, labels, g, c, is_left(labels, g, band, c))
+// A lent word room, and the next place in it.
+#[derive(Drop)]
+struct Filling<'a> {
+    words: &'a mut [u32],
+    next: usize,
 }
 
-// The cells that are left, by ascending number, from place `at` on; how many they are.
-fn left_list(words: &mut [u32], at: usize, labels: &[u8], g: Sides, band: bool) -> usize
-    requires fit { Fit g }
-    requires g_in_bounds { at + length (chosen (left band g labels.now) (cells g)) ≤ length words.old }
-    ensures { Listed words.old at (left_of band g labels.now) result words.new }
-{
-    let n = grid::place::cell_count(g);
-    let mut next = at;
-    for c in 0..n {
-        next = keep_left(words, next, labels, g, band, c);
+impl Filling<'_> {
+    // The entry of cell c is written to the next place if the cell is to be kept.
+    fn keep(&mut self, labels: &[u8], g: Sides, c: usize, yes: bool)
+        requires fit { Fit g }
+        requires c_bound { c < cells g }
+        requires room { Room (length (kept yes c)) self.old }
+        ensures { Fills (entry_of g labels.now) (kept yes c) self.old self.new }
+    {
+        if yes {
+            let n = grid::place::cell_count(g);
+            self.words[self.next] = grid::entry::entry_of(labels, g, n, c);
+            self.next += 1;
+        }
     }
-    next - at
+
+    // Cell c, if it is to be smoothed.
+    fn keep_cell(&mut self, labels: &[u8], g: Sides, band: bool, c: usize)
+        requires fit { Fit g }
+        requires c_bound { c < cells g }
+        requires room { Room (length (kept (smoothed band g labels.now c) c)) self.old }
+        ensures { Fills (entry_of g labels.now) (kept (smoothed band g labels.now c) c) self.old self.new }
+    {
+        self.keep(labels, g, c, is_smoothed(labels, g, band, c));
+    }
+
+    // The cell of wave w at j and k, if there is one and it is to be smoothed.
+    fn keep_at(&mut self, labels: &[u8], g: Sides, band: bool, w: usize, k: usize, j: usize)
+        requires fit { Fit g }
+        requires j_lt_ny { (j < g.ny) × (k < g.nz) }
+        requires room { Room (length (wave_cell g (smoothed band g labels.now) w k j)) self.old }
+        ensures { Fills (entry_of g labels.now) (wave_cell g (smoothed band g labels.now) w k j) self.old self.new }
+    {
+        let near = j + k;
+        if w < near {
+            return;
+        }
+        let i = w - near;
+        if g.nx as usize <= i {
+            return;
+        }
+        let c = grid::place::number_of(g, i, j, k);
+        self.keep_cell(labels, g, band, c);
+    }
+
+    // Those of wave w at k.
+    fn keep_line(&mut self, labels: &[u8], g: Sides, band: bool, w: usize, k: usize)
+        requires fit { Fit g }
+        requires k_lt_nz { k < g.nz }
+        requires room { Room (length (wave_line g (smoothed band g labels.now) w k)) self.old }
+        ensures { Fills (entry_of g labels.now) (wave_line g (smoothed band g labels.now) w k) self.old self.new }
+    {
+        let n = g.ny as usize;
+        for j in 0..n {
+            self.keep_at(labels, g, band, w, k, j);
+        }
+    }
+
+    // All of wave w.
+    fn keep_wave(&mut self, labels: &[u8], g: Sides, band: bool, w: usize)
+        requires fit { Fit g }
+        requires room { Room (length (wave_of g (smoothed band g labels.now) w)) self.old }
+        ensures { Fills (entry_of g labels.now) (wave_of g (smoothed band g labels.now) w) self.old self.new }
+    {
+        let n = g.nz as usize;
+        for k in 0..n {
+            self.keep_line(labels, g, band, w, k);
+        }
+    }
+
+    // The cells of a level of sides g that are to be smoothed, wave by wave.
+    fn keep_waves(&mut self, labels: &[u8], g: Sides, band: bool)
+        requires fit { Fit g }
+        requires room { Room (length (waves g (smoothed band g labels.now))) self.old }
+        ensures { Fills (entry_of g labels.now) (waves g (smoothed band g labels.now)) self.old self.new }
+    {
+        let n = (g.nx as usize) + (g.ny as usize) + (g.nz as usize);
+        for w in 0..n {
+            self.keep_wave(labels, g, band, w);
+        }
+    }
+
+    // Cell c, if it is left.
+    fn keep_left(&mut self, labels: &[u8], g: Sides, band: bool, c: usize)
+        requires fit { Fit g }
+        requires c_bound { c < cells g }
+        requires room { Room (length (left_at band g labels.now c)) self.old }
+        ensures { Fills (entry_of g labels.now) (left_at band g labels.now c) self.old self.new }
+    {
+        self.keep(labels, g, c, is_left(labels, g, band, c));
+    }
+
+    // The cells that are left, by ascending number.
+    fn keep_rest(&mut self, labels: &[u8], g: Sides, band: bool)
+        requires fit { Fit g }
+        requires room { Room (length (chosen (left band g labels.now) (cells g))) self.old }
+        ensures { Fills (entry_of g labels.now) (chosen (left band g labels.now) (cells g)) self.old self.new }
+    {
+        let n = grid::place::cell_count(g);
+        for c in 0..n {
+            self.keep_left(labels, g, band, c);
+        }
+    }
+
+    // All air of a level: what is swept, and then what is left.
+    fn keep_air(&mut self, labels: &[u8], g: Sides, band: bool) -> LevelList
+        requires fit { Fit g }
+        requires room { Room (interior g labels.now) self.old }
+        ensures { LevelFills (list_of band g labels.now) (air_of band g labels.now) self.old result self.new }
+    {
+        let start = self.next;
+        self.keep_waves(labels, g, band);
+        let swept = self.next - start;
+        self.keep_rest(labels, g, band);
+        LevelList {
+            start,
+            swept,
+            air: self.next - start,
+        }
+    }
+
+    // The list of level k of count levels; on every level but the last its band is swept, on the last all its air.
+    fn keep_level(&mut self, bytes: &[u8], l: Levels, count: usize, k: usize) -> LevelList
+        requires { LevelAsked l k self.old.next bytes.now (length self.old.words.now) }
+        ensures { LevelFills (list_in l count bytes.now k) (air_in l count bytes.now k) self.old result self.new }
+    {
+        let level = l[k];
+        let to = level.start + grid::place::cell_count(level.sides);
+        let band = k + 1 < count;
+        self.keep_air(&bytes[level.start..to], level.sides, band)
+    }
 }
 
-// All air of a level from place `at` on: what is swept, and then what is left.
-fn air_list(words: &mut [u32], at: usize, labels: &[u8], g: Sides, band: bool) -> LevelList
+// The cells of a level of sides g that are to be smoothed, wave by wave, from place `at` on; how many they are.
+pub fn wave_list(words: &mut [u32], at: usize, labels: &[u8], g: Sides, band: bool) -> usize
     requires fit { Fit g }
     requires labels_in_bounds { at + interior g labels.now ≤ length words.old }
-    ensures { LevelListed words.old at (list_of band g labels.now) (air_of band g labels.now) result words.new }
+    ensures { Listed words.old at (list_of band g labels.now) result words.new }
 {
-    let swept = wave_list(words, at, labels, g, band);
-    let rest = left_list(words, at + swept, labels, g, band);
-    LevelList {
-        start: at,
-        swept,
-        air: swept + rest,
-    }
-}
-
-// The list of level k of count levels, from place `at` on; on every level but the last its band is swept, on the last
-// all its air.
-fn level_list(
-    words: &mut [u32],
-    at: usize,
-    bytes: &[u8],
-    l: Levels,
-    count: usize,
-    k: usize,
-) -> LevelList
-    requires { LevelAsked l k at bytes.now (length words.old) }
-    ensures { LevelListed words.old at (list_in l count bytes.now k) (air_in l count bytes.now k) result words.new }
-{
-    let level = l[k];
-    let to = level.start + grid::place::cell_count(level.sides);
-    let band = k + 1 < count;
-    air_list(words, at, &bytes[level.start..to], level.sides, band)
+    let mut filling = Filling { words, next: at };
+    filling.keep_waves(labels, g, band);
+    filling.next - at
 }
 
 // The lists of the levels 0 to count - 1, one after the other.
@@ -242,11 +233,9 @@ pub fn all_lists(words: &mut [u32], bytes: &[u8], l: Levels, count: usize) -> Li
         swept: 0,
         air: 0,
     }; 6];
-    let mut next = 0;
+    let mut filling = Filling { words, next: 0 };
     for k in 0..count {
-        let list = level_list(words, next, bytes, l, count, k);
-        lists[k] = list;
-        next += list.air;
+        lists[k] = filling.keep_level(bytes, l, count, k);
     }
     lists
 }
