@@ -48,6 +48,7 @@ fn answer(
 }
 
 // A session is read from an input, and its answer written to an output, in arrays of its own.
+// Kept: beside `answer_input::run`, whose answer takes no settings: those of the old form come from the command line.
 fn run<
     R: Read,
     W: Write,

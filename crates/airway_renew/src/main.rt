@@ -68,6 +68,7 @@ fn run<R: Read, W: Write, E: Write, const BUFFER: usize, const CELLS: usize, con
     let written = answer(order, settings, front, &mut values, &mut output);
     let found = written.answer;
     let count = written.count;
+    // Kept: `Answer` is the one that C has too, by whose number 0 nothing is at fault.
     if found.number == 0 {
         return to.write_all(&output[..count]);
     }

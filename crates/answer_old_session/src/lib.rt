@@ -62,6 +62,7 @@ pub fn respond_old(
 {
     let read = read_old(settings, input, values);
     let answer = read.answer;
+    // Kept: `Answer` is the one that C has too, by whose number 0 nothing is at fault.
     if answer.number != 0 {
         return show(answer, &[], output);
     }

@@ -81,6 +81,7 @@ pub fn show(answer: Answer, pressures: &[i64], output: &mut [u8]) -> usize
         at: 0,
     };
     put_answer(&mut sink, answer);
+    // Kept: `Answer` is the one that C has too, by whose number 0 nothing is at fault.
     let accepted = answer.number == 0;
     if accepted {
         sink.put_each(&CellLine, pressures);

@@ -122,6 +122,7 @@ fn answered(
 {
     let read = session_read::read_after(input, header, values);
     let answer = read.answer;
+    // Kept: `Answer` is the one that C has too, by whose number 0 nothing is at fault.
     if answer.number != 0 {
         return show(answer, &[], output);
     }

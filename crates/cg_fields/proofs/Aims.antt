@@ -8,6 +8,7 @@ use borrow.Author.Rules.{rules}
 use lib.ListN.{length, get_or, set, take, drop}
 use lib.Seq.{get_or-set_other}
 use lib.Ieee.{Float, nan, inf, fin, lt}
+use Rattle.std.specs.Float.{float_is_finite}
 use Rattle.laws.specs.Binary64.{+0}
 use Rattle.laws.specs.Loops.{up}
 use Rattle.laws.specs.Lists.{tab}
@@ -30,19 +31,12 @@ use Rattle.cg_fields.specs.Fields.{p_of, z_of, t_of}
 use Rattle.cg_fields.specs.Entries.{aim_new, fill_at, Aimed}
 use Rattle.cg_fields.proofs.Calm.{plus_scaled, calm, put_front, put_there, put_rest, put_long}
 
--- ---- above minus infinity, a number is finite where it is below infinity
-pub finite_high : (x : Float) → lt (inf true) x ≡ true → lt x (inf false) ≡ finite x
-unfolding finite lt
-finite_high nan h = refl
-finite_high (inf true) h = sym h
-finite_high (inf false) h = refl
-finite_high (fin s m e) h = refl
-
-pub finite_low : (x : Float) → lt (inf true) x ≡ false → false ≡ finite x
-unfolding finite lt
-finite_low nan h = refl
-finite_low (inf s) h = refl
-finite_low (fin s m e) h = sym h
+-- ---- the library's test of finite numbers is document 01's
+pub finite_is : (x : Float) → float_is_finite x ≡ finite x
+unfolding finite float_is_finite
+finite_is nan = refl
+finite_is (inf s) = refl
+finite_is (fin s m e) = refl
 
 -- ---- from +0 and +0 with a finite beta
 none_made : (done : ℕ) (beta : Float) → finite beta ≡ true → direction done beta +0 +0 ≡ +0

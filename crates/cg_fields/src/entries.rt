@@ -100,8 +100,7 @@ pub fn reduce(room: &mut [f64], n: usize, alpha: f64)
 pub fn is_finite(x: f64) -> bool
     ensures { result ≡ finite x }
 {
-    let top = 1.0 / 0.0;
-    if -top < x { x < top } else { false }
+    x.is_finite()
 }
 
 // The new direction at every cell, into p, beta finite: off air z and p are +0.0, and so is what they make.

@@ -44,6 +44,7 @@ pub fn renew(
 {
     let read = read_old(settings, input, values);
     let answer = read.answer;
+    // Kept: `Answer` is the one that C has too, by whose number 0 nothing is at fault.
     if answer.number != 0 {
         return Written { answer, count: 0 };
     }

@@ -28,8 +28,8 @@ fn whole_at(labels: &[u8], values: &[i32], g: method::Sides, c: usize) -> i64
 {
     let around = grid::near::neighbours(g, labels.len(), c);
     let mut b = i64::from(values[c]);
-    for i in 0..6 {
-        b = level_at(labels, values, around[i], b);
+    for j in around {
+        b = level_at(labels, values, j, b);
     }
     b
 }

@@ -36,6 +36,7 @@ pub struct Header {
 }
 
 // Three lines of numbers, the first of which has the number `first`, or the number of the first that is not of the form.
+// Kept: the `u32` of an error is that line, which is the place of the one fault that lines have, and no kind of fault.
 fn three_lines(bytes: &[u8], first: u32, a: &[u8], b: &[u8], c: &[u8]) -> Result<Three, u32>
     requires { first ≤ 5 }
     ensures { ThreeOf first a.now b.now c.now bytes.now result }

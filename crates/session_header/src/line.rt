@@ -91,6 +91,7 @@ pub fn number_line(bytes: &[u8], key: &[u8]) -> Option<Read>
 }
 
 // The line of the order: 0 for `big`, 1 for `little`.
+// Kept: document 01 reads seven lines of one form, each for a number; `order_of` makes the `Order` of this one.
 pub(crate) fn order_line(bytes: &[u8]) -> Option<Read>
     ensures { LineOf order_line bytes.now result }
 {

@@ -42,9 +42,6 @@ pub narrow_fits : (z : ℤ) → nat_abs z < 2 ^ 31 → SFits w32 z
 narrow_fits z h = record { sfits = omega (arith, mag_le z) }
 
 -- ---- the machine's operations on bits, as they stand in the needs
-pub unsigned : (d : ℕ) → d ≤ 6 → to_z w64 d ≡ pos d
-unsigned d h = to_z_pos w64 (omega arith)
-
 pub abs_32 : (z : ℤ) → SFits w32 z → nat_abs z ≤ 2 ^ 31
 abs_32 z f = nat_abs-le z f.sfits
 

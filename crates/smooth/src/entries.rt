@@ -22,7 +22,7 @@ fn pick_back(e: u32, unit: u32, c: usize, step: usize, zero: usize) -> usize
 }
 
 // The same one step on.
-// Kept: beside pick_back, since a step back asks that it fits below and a step on that it fits above the cell.
+// Kept: beside pick_back, since a step back asks that it fits below the cell and a step on that it fits above it.
 fn pick_on(e: u32, unit: u32, c: usize, step: usize, zero: usize) -> usize
     requires { (0 < unit) × (e / unit % 2 ≡ 1 → c + step < zero) }
     ensures value { result ≡ picked (e / unit % 2) (c + step) zero }
@@ -59,6 +59,7 @@ fn relax_entry(room: &mut [f64], lattice: Lattice, e: u32)
     ensures room_after { (g : Sides) (ls : List ℕ) → Entry g ls lattice.n lattice.nx lattice.plane e → room.new ≡ relaxed g ls (is_air ls) (b_of (cells g) room.old) (e % 32768) (u_of (cells g) room.old) ++ drop (cells g) room.old }
 {
     let c = (e % 32768) as usize;
+    // Kept: `as` in the solver's innermost steps, where a call of `f64::from` says the same.
     let d = (e / 2097152) as f64;
     let sum = gather(&room[..], lattice, e);
     let x = room[c];

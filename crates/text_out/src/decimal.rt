@@ -5,7 +5,7 @@ ghost use Rattle.text_out.specs.Puts.{DigitsOf, Room, Puts};
 
 use crate::Sink;
 
-// How many digits a number has.
+// How many digits a number has: 0 has no logarithm, and one digit.
 pub fn digits_of(n: u64) -> usize
     ensures { DigitsOf n result }
 {

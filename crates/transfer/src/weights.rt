@@ -28,5 +28,5 @@ pub fn weight(i: usize, j: usize, k: usize) -> f64
     requires { (i < 4) × ((j < 4) × (k < 4)) }
     ensures { result ≡ ofℕ (weight_of i j k) }
 {
-    product(i, j, k) as f64
+    f64::from(product(i, j, k))
 }

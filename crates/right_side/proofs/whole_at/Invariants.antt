@@ -2,5 +2,5 @@
 use Rattle.right_side.proofs.Laws.{Gathering}
 use Rattle.right_side.proofs.whole_at.Given as goal
 
-abbrev pub invariant-loop-i : goal.invariant-loop-i
-invariant-loop-i l = Gathering l.labels l.values l.around l.initial.b l.i l.b
+abbrev pub invariant-loop-j : goal.invariant-loop-j
+invariant-loop-j l = Gathering l.labels l.values l.j-items l.initial.b l.j-index l.b
