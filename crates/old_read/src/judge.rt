@@ -45,7 +45,10 @@ fn judge_values(body: &[u8], labels: &[u8], n: usize, unit: u32) -> Result<(), F
     requires { (n ≤ 32768) × ((n ≤ length labels.now) × ((2 * n ≤ length body.now) × (unit ≤ 1000))) }
     ensures { result ≡ ruling_by BadValue (first (bad_old_value body.now labels.now unit) n) }
 {
-    at_fault(|cell| Fault::BadValue(cell), bad_value(body, labels, n, unit))
+    at_fault(
+        |cell| Fault::BadValue(cell),
+        bad_value(body, labels, n, unit),
+    )
 }
 
 // Checks 4 and 5, of a body of n cells: its labels come after its values.

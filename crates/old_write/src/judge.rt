@@ -36,7 +36,10 @@ fn judge_units(values: &[i32], n: usize, unit: u32) -> Result<(), Fault>
     requires { (0 < unit) × ((n ≤ 32768) × (n ≤ length values.now)) }
     ensures { result ≡ ruling_by Inexpressible (first (inexpressible unit values.now) n) }
 {
-    at_fault(|cell| Fault::Inexpressible(cell), first_inexpressible(values, n, unit))
+    at_fault(
+        |cell| Fault::Inexpressible(cell),
+        first_inexpressible(values, n, unit),
+    )
 }
 
 // Checks 2, 4, 5 and 13, of sides and a unit that are right.
