@@ -50,6 +50,7 @@ fn refuse<E: Write>(errors: &mut E, found: Answer) -> io::Result<()> {
 
 // A session is read from an input, and written in the new form to an output, or the lines of its refusal to errors, in
 // arrays of its own.
+// Kept: beside `answer_input::run`, which has one output and no order or settings from the command line.
 fn run<R: Read, W: Write, E: Write, const BUFFER: usize, const CELLS: usize, const SESSION: usize>(
     from: &mut R,
     to: &mut W,

@@ -19,7 +19,7 @@ use levels::sides::Levels;
 use method::{Settings, Sides};
 
 // What a walk through a cast found: whether the cast and the room fit (else all is 0), depth, and the first sealed cell
-// if there is one.
+// if there is one. Kept: C has no `Option`.
 #[repr(C)]
 #[derive(Clone, Copy)]
 pub struct Walk {
@@ -29,7 +29,7 @@ pub struct Walk {
     pub sealed: u32,
 }
 
-// A binary64 as a whole tick, if it is one.
+// A binary64 as a whole tick, if it is one. Kept: C has no `Option`.
 #[repr(C)]
 #[derive(Clone, Copy)]
 pub struct Ticked {

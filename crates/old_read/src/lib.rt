@@ -17,6 +17,7 @@ use session_header::line::rest;
 use values::store_values;
 
 // What the reader hands back: the label part of the bytes begins at `start`.
+// Kept: no `Result`, since C is handed every field on a refusal too, and `OldReadOf` says what it is.
 #[repr(C)]
 #[derive(Clone, Copy)]
 pub struct OldSession {

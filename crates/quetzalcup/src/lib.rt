@@ -27,6 +27,7 @@ pub struct Task {
 }
 
 // What the reader hands back: the order by its number, and where in the bytes the label part starts.
+// Kept: C has no `Result` and no enum, and every field on a refusal too.
 #[repr(C)]
 #[derive(Clone, Copy)]
 pub struct Read {

@@ -19,6 +19,7 @@ use session_header::{Header, read_header};
 use session_values::store_values;
 
 // What the reader hands back beside the label part, and where in the bytes that part starts.
+// Kept: no `Result`, since C is handed every field on a refusal too, and `ReadOf` says what it is.
 #[derive(Clone, Copy)]
 pub struct Session {
     pub answer: Answer,

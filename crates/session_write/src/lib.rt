@@ -11,6 +11,7 @@ use method::{Answer, Order, Settings, Sides};
 use session_bytes::put_session;
 
 // What the writer hands back.
+// Kept: no `Result`, since C is handed both fields on a refusal too, and `WriteOf` says what they are.
 #[repr(C)]
 #[derive(Clone, Copy)]
 pub struct Written {
