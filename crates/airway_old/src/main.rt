@@ -9,6 +9,7 @@ ghost use Rattle.std.specs.Prelude.{◌≡◌, ◌+◌, ◌^◌, ◌<◌, length
 ghost use Rattle.prints.specs.Prints.{large_room, old_buffer};
 ghost use Rattle.answer_session.specs.Responds.{Roomy, RoomFor};
 ghost use Rattle.answer_old_session.specs.OldResponds.{OldProgramOf};
+ghost use Rattle.airway_old.specs.OldInputs.{OldAnswerOf};
 
 use answer_old_session::respond_old;
 use answer_session::Lent;
@@ -47,6 +48,24 @@ fn answer(
     respond_old(settings, front, values, lent, output)
 }
 
+// The same, of the front that is read from an input into a buffer that holds just as many bytes as decide.
+fn answer_from<R: Read>(
+    from: &mut R,
+    settings: Settings,
+    buffer: &mut [u8],
+    values: &mut [i32],
+    lent: Lent<'_>,
+    output: &mut [u8],
+) -> usize
+    requires buffer_len { length buffer.old ≡ old_buffer }
+    requires values_len { length values.old ≡ large_room }
+    requires roomy { RoomFor large_room (length values.old) lent (length output.old) }
+    ensures { OldAnswerOf settings (R.remaining from.old) (R.remaining from.new) output.old output.new result }
+{
+    let front = front_of(from, buffer);
+    answer(settings, front, values, lent, output)
+}
+
 // A session is read from an input, and its answer written to an output, in arrays of its own.
 // Kept: beside `answer_input::run`, whose answer takes no settings: those of the old form come from the command line.
 fn run<
@@ -70,14 +89,13 @@ fn run<
     let mut floats = [0.0f64; FLOATS];
     let mut words = [0u32; WORDS];
     let mut output = [0u8; PRINT];
-    let front = front_of(from, &mut buffer);
     let lent = Lent {
         pressures: &mut pressures,
         bytes: &mut bytes,
         floats: &mut floats,
         words: &mut words,
     };
-    let count = answer(settings, front, &mut values, lent, &mut output);
+    let count = answer_from(from, settings, &mut buffer, &mut values, lent, &mut output);
     to.write_all(&output[..count])
 }
 

@@ -8,6 +8,7 @@
 ghost use Rattle.std.specs.Prelude.{◌≡◌, ◌+◌, ◌^◌, ◌<◌, ◌≤◌, length};
 ghost use Rattle.prints.specs.Prints.{buffer_for, large_room, old_buffer};
 ghost use Rattle.renew.specs.Renews.{RenewProgramOf};
+ghost use Rattle.airway_renew.specs.RenewInputs.{RenewedFrom};
 
 use answer_print::show;
 use input_front::front_of;
@@ -41,6 +42,23 @@ fn answer(
     renew(order, settings, front, values, output)
 }
 
+// The same, of the front that is read from an input into a buffer that holds just as many bytes as decide.
+fn answer_from<R: Read>(
+    from: &mut R,
+    order: Order,
+    settings: Settings,
+    buffer: &mut [u8],
+    values: &mut [i32],
+    output: &mut [u8],
+) -> Written
+    requires buffer_len { length buffer.old ≡ old_buffer }
+    requires roomy { (length values.old ≡ large_room) × (buffer_for large_room ≤ length output.old) }
+    ensures { RenewedFrom order settings (R.remaining from.old) (R.remaining from.new) output.old result output.new }
+{
+    let front = front_of(from, buffer);
+    answer(order, settings, front, values, output)
+}
+
 // The lines of a refusal are written, to standard error as it is called.
 fn refuse<E: Write>(errors: &mut E, found: Answer) -> io::Result<()> {
     let mut text = [0u8; 160];
@@ -65,8 +83,7 @@ fn run<R: Read, W: Write, E: Write, const BUFFER: usize, const CELLS: usize, con
     let mut buffer = [0u8; BUFFER];
     let mut values = [0i32; CELLS];
     let mut output = [0u8; SESSION];
-    let front = front_of(from, &mut buffer);
-    let written = answer(order, settings, front, &mut values, &mut output);
+    let written = answer_from(from, order, settings, &mut buffer, &mut values, &mut output);
     let found = written.answer;
     let count = written.count;
     // Kept: `Answer` is the one that C has too, by whose number 0 nothing is at fault.

@@ -1,0 +1,2 @@
+-- What the contracts of this crate cite, beside the meaning in method.
+pub mod OldInputs
