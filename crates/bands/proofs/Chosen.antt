@@ -294,45 +294,38 @@ module _ (b : Bool) (g : Sides) (ls : List ℕ) where
   pub air_le : length (air_of b g ls) ≤ interior g ls
   air_le = omega (arith, length-append (list_of b g ls) (left_of b g ls), left_long, both_le)
 
-  module _ (a r : ℕ) (e s : List ℕ) (u : Placed (entry_of g ls) e a (waves g (smoothed b g ls)) r s) where
-    swept_listed : Listed e a (list_of b g ls) (r - a) s
-    swept_listed = list_listed g ls e a b r s u
+  module _ (a k : ℕ) (e s : List ℕ) (u : Listed e a (list_of b g ls) k s) (h : a + interior g ls ≤ length e) where
+    pub swept_in : a + k ≤ length e
+    swept_in = omega (arith, u.count, both_le)
 
-    pub swept_after : a ≤ r
-    swept_after = omega (arith, u.next)
+    pub rest_room : a + k + length (chosen (left b g ls) (cells g)) ≤ length s
+    rest_room =
+        let same : length s ≡ length e = ap length u.room ∙ length_written e a (list_of b g ls) (omega (arith, both_le)) in
+        omega (arith, u.count, both_le, same)
 
-    module _ (h : a + interior g ls ≤ length e) where
-      pub rest_room : r + length (chosen (left b g ls) (cells g)) ≤ length s
-      rest_room =
-          let same : length s ≡ length e = ap length swept_listed.room ∙ length_written e a (list_of b g ls) (omega (arith, both_le)) in
-          omega (arith, swept_after, swept_listed.count, both_le, same)
+    module _ (q : ℕ) (t : List ℕ) (v : Placed (entry_of g ls) s (a + k) (chosen (left b g ls) (cells g)) q t) where
+      rest_listed : Listed s (a + k) (left_of b g ls) (q - (a + k)) t
+      unfolding left_of
+      rest_listed = listed (entry_of g ls) s (a + k) (chosen (left b g ls) (cells g)) q t v
 
-      module _ (q : ℕ) (t : List ℕ) (v : Placed (entry_of g ls) s r (chosen (left b g ls) (cells g)) q t) where
-        rest_listed : Listed s r (left_of b g ls) (q - r) t
-        unfolding left_of
-        rest_listed = listed (entry_of g ls) s r (chosen (left b g ls) (cells g)) q t v
+      pub air_after : a ≤ q
+      air_after = omega (arith, v.next)
 
-        pub air_after : a ≤ q
-        air_after = omega (arith, u.next, v.next)
+      pub air_next : q ≡ a + (q - a)
+      air_next = omega (arith, air_after)
 
-        pub air_next : q ≡ a + (q - a)
-        air_next = omega (arith, air_after)
+      pub air_listed : LevelListed e a (list_of b g ls) (air_of b g ls) (record { start = a; swept = k; air = q - a }) t
+      air_listed = record {
+        start = refl;
+        count = u.count;
+        whole = omega (arith, v.next, u.count, rest_listed.count, length-append (list_of b g ls) (left_of b g ls));
+        room =
+            rest_listed.room
+            ∙ ap₂ (λ x i. written x i (left_of b g ls)) u.room (omega (arith, u.count))
+            ∙ written_on e a (list_of b g ls) (omega arith) (left_of b g ls);
+      }
 
-        pub air_listed : LevelListed e a (list_of b g ls) (air_of b g ls) (record { start = a; swept = r - a; air = q - a }) t
-        air_listed = record {
-          start = refl;
-          count = swept_listed.count;
-          whole = omega (arith, u.next, v.next, swept_listed.count, rest_listed.count, length-append (list_of b g ls) (left_of b g ls));
-          room =
-              rest_listed.room
-              ∙ ap₂ (λ x k. written x k (left_of b g ls)) swept_listed.room place
-              ∙ written_on e a (list_of b g ls) (omega arith) (left_of b g ls);
-        }
-          where
-            place : r ≡ a + length (list_of b g ls)
-            place = omega (arith, swept_after, swept_listed.count)
-
-pub ruleset airs = (rules, list_room, swept_after, rest_room, air_after, air_next, air_listed)
+pub ruleset airs = (rules, rest_room, air_after, air_next, air_listed)
 
 -- ---- what the calls ask
 pub band_asked : (g h : Sides) (n m c : ℕ) → Fit g → h ≡ halved g → n ≡ cells g → m ≡ cells h → c < n → BandAsked g h n m c

@@ -190,8 +190,8 @@ impl Filling<'_> {
         ensures { LevelFills (list_of band g labels.now) (air_of band g labels.now) self.old result self.new }
     {
         let start = self.next;
-        self.keep_waves(labels, g, band);
-        let swept = self.next - start;
+        let swept = wave_list(self.words, start, labels, g, band);
+        self.next = start + swept;
         self.keep_rest(labels, g, band);
         LevelList {
             start,
