@@ -2,11 +2,12 @@
 -- Assumes nothing.
 use Prim.Native.Nat.{ℕ, zero, suc, ◌+◌, ◌-◌, ◌≤◌, ◌<◌}
 use mathlib.Core.Path.{◌≡◌, refl, sym, ap, ap₂, ◌∙◌}
-use mathlib.Core.List.{List, ◌++◌}
+use mathlib.Core.List.{List}
+use native.Mathlib.Numerals.{add-one}
 use native.Mathlib.Omega.{arith}
 use borrow.Author.Rules.{rules}
 use lib.ListN.{length, take, drop, set, get_or, length-append, length-set}
-use lib.Seq.{get_or-take, length-take-le}
+use lib.Seq.{get_or-take, length-take-le, take-suc, take_all}
 use Rattle.laws.specs.Loops.{up}
 use Rattle.laws.specs.Lists.{tab}
 use Rattle.laws.proofs.Loops.{Up, up_none, up_more, up_end}
@@ -75,9 +76,29 @@ pub next_fit : (g h : Sides) → Fit g → h ≡ halved g → Fit h
 next_fit g h z e = rw e (halved_fit g z)
 
 -- ---- level 0
-pub copied : (f : ℕ → List ℕ → List ℕ) (e ls s : List ℕ) → s ≡ ls → Up f (written e 0 ls) 0 (s ++ drop (length ls) e)
-unfolding written up
-copied f e ls s h = let k : 0 + length ls ≡ length ls = omega arith in record { is = rw (h, k) refl }
+pub record Copied (e ls : List ℕ) (i : ℕ) (s : List ℕ) : Type 0 where
+  pub is : s ≡ written e 0 (take i ls)
+
+module _ (e ls : List ℕ) where
+  pub copied_none : Copied e ls 0 e
+  copied_none = record { is = written_none e 0 }
+
+  pub copied_long : (i : ℕ) (s : List ℕ) → length ls ≤ length e → i ≤ length ls → Copied e ls i s → length s ≡ length e
+  copied_long i s h l c = ap length c.is ∙ length_written e 0 (take i ls) (omega (arith, length-take-le i ls l))
+
+  pub copied_room : (i : ℕ) (s : List ℕ) → length ls ≤ length e → i < length ls → Copied e ls i s → i < length s
+  copied_room i s h l c = omega (arith, copied_long i s h (omega arith) c)
+
+  pub copied_more : (i : ℕ) (s : List ℕ) → length ls ≤ length e → i < length ls → Copied e ls i s → Copied e ls (i + 1) (set s i (get_or ls i 0))
+  copied_more i s h l c =
+      let q : i ≡ 0 + length (take i ls) = omega (arith, length-take-le i ls (omega arith)) in
+      let p : set s i (get_or ls i 0) ≡ written e 0 (take (suc i) ls) =
+      ap (λ x. set x i (get_or ls i 0)) c.is ∙ ap (λ k. set (written e 0 (take i ls)) k (get_or ls i 0)) q
+      ∙ written_more e 0 (take i ls) (get_or ls i 0) (omega arith) ∙ ap (written e 0) (sym (take-suc ls i 0 l)) in
+      record { is = rw add-one p }
+
+  pub copied_end : (i : ℕ) (s : List ℕ) → length ls ≤ i → Copied e ls i s → s ≡ written e 0 ls
+  copied_end i s h c = c.is ∙ ap (written e 0) (take_all i ls h)
 
 pub all_long : (g : Sides) (ls : List ℕ) → length ls ≡ cells g → (k : ℕ) → length (all_labels g ls k) ≡ cells_before g k
 unfolding all_labels cells_before
@@ -184,4 +205,6 @@ all_copies l count n m a = omega (arith, a.full, a.room)
 
 pub ruleset coarsens = (rules, up_none, up_more, coarsen_at_is, coarsen_kept, coarsen_end, coarse_asked, coarse_room, next_fit)
 
-pub ruleset nexts = (rules, copied, all_fit, all_room, all_more, all_end, all_copies)
+pub ruleset copies = (rules, copied_none, copied_long, copied_room, copied_more, copied_end)
+
+pub ruleset nexts = (rules, up_none, all_fit, all_room, all_more, all_end, all_copies)

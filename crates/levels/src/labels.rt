@@ -89,12 +89,23 @@ pub fn coarsen(bytes: &mut [u8], at: usize, g: Sides)
     }
 }
 
+// The caller's labels as level 0's.
+// Kept, label by label: `copy_from_slice` is a call of C's `memmove`, which the library for C needs for nothing else.
+fn copy(bytes: &mut [u8], labels: &[u8])
+    requires { length labels.now ≤ length bytes.old }
+    ensures { bytes.new ≡ written bytes.old 0 labels.now }
+{
+    for i in 0..labels.len() {
+        bytes[i] = labels[i];
+    }
+}
+
 // The labels of the levels 0 to count - 1, one after the other: each level but the last gives those of the next.
 pub fn all_labels(bytes: &mut [u8], labels: &[u8], l: Levels, count: usize)
     requires { LabelsAsked l count (length labels.now) (length bytes.old) }
     ensures { bytes.new ≡ written bytes.old 0 (all_labels (base l) labels.now count) }
 {
-    bytes[..labels.len()].copy_from_slice(labels);
+    copy(bytes, labels);
     for level in &l[..count - 1] {
         coarsen(bytes, level.start, level.sides);
     }

@@ -1,14 +1,12 @@
 -- Laws of bytes that are put one part after the other. Assumes nothing.
 use mathlib.Core.Path.{◌≡◌, refl, sym, ap, ap₂, ◌∙◌}
 use mathlib.Core.List.{List, [], ◌∷◌, ◌++◌}
-use Prim.Native.Nat.{ℕ, suc, ◌+◌, ◌≤◌}
+use Prim.Native.Nat.{ℕ, suc, ◌+◌, ◌≤◌, ◌<◌}
+use native.Mathlib.Numerals.{add-one}
 use native.Mathlib.Omega.{arith}
 use borrow.Author.Rules.{rules}
-use borrow.Rule.Slice.PartMut.{put_mid}
-use lib.ListN.{length, take, drop, set, length-append}
-use lib.Seq.{sets, length-sets, take_all}
-use Rattle.std.proofs.lemmas.Slice.{put_mid-paste}
-use Rattle.std.proofs.lemmas.List.Edits.{sets-eq}
+use lib.ListN.{length, get_or, take, set, length-append, length-set}
+use lib.Seq.{sets, length-sets, take-suc, take_all, length-take-le}
 use Rattle.laws.specs.Text.{text}
 use Rattle.method.specs.Numbers.{decimal}
 use Rattle.method.specs.Form.{line}
@@ -35,16 +33,31 @@ put_room xs ys a b i j h r = omega (arith, h.next, put_length h, length-append x
 pub front_room : (xs ys : List ℕ) (i m : ℕ) → i + length (xs ++ ys) ≤ m → i + length xs ≤ m
 front_room xs ys i m r = omega (arith, length-append xs ys)
 
--- ---- bytes, copied to their place
-pub copied : (bytes old new : List ℕ) (at k : ℕ) → at + length bytes ≤ length old → new ≡ bytes → k ≡ length bytes → Put bytes old at (put_mid at k old new) (at + length bytes)
-copied bytes old new at k r e w = record {
-  is = put_mid-paste at k old new bytes (length bytes) e (sym w) refl
-      ∙ ap (λ xs. take at old ++ xs ++ drop (at + length bytes) old) (take_all (length bytes) bytes (omega arith))
-      ∙ sym (sets-eq bytes old at r);
-  next = refl;
-}
+-- ---- bytes, one store a turn
+pub record Copied (bytes old : List ℕ) (at i : ℕ) (new : List ℕ) : Type 0 where
+  pub is : new ≡ sets old at (take i bytes)
 
-pub ruleset copies = (rules, copied)
+pub copied_none : (bytes old : List ℕ) (at : ℕ) → Copied bytes old at 0 old
+copied_none bytes old at = record { is = refl }
+
+pub copied_more : (bytes old new : List ℕ) (at i : ℕ) → i < length bytes → Copied bytes old at i new → Copied bytes old at (i + 1) (set new (at + i) (get_or bytes i 0))
+copied_more bytes old new at i l h =
+    let e : length (take i bytes) ≡ i = length_front in
+    record {
+      is = sym (ap (sets old at) (ap (λ k. take k bytes) (add-one i) ∙ take-suc bytes i 0 l) ∙ sets_append old (take i bytes) (get_or bytes i 0 ∷ []) at
+          ∙ ap₂ (λ s k. set s (at + k) (get_or bytes i 0)) (sym h.is) e);
+    }
+  where
+    length_front : length (take i bytes) ≡ i
+    length_front = length-take-le i bytes (omega arith)
+
+pub copied_all : (bytes old new : List ℕ) (at i : ℕ) → i ≤ length bytes → length bytes ≤ i → Copied bytes old at i new → Put bytes old at new (at + length bytes)
+copied_all bytes old new at i a b h = record { is = h.is ∙ ap (sets old at) (take_all i bytes b); next = refl }
+
+pub copied_room : (at i m n k : ℕ) → i < m → at + m ≤ n → k ≡ n → at + i < k
+copied_room at i m n k a b c = omega arith
+
+pub ruleset copies = (rules, copied_none, copied_more, copied_all, copied_room, length-set)
 
 -- what was lent comes back: it holds what the sink holds that still has it
 pub comes_back : {N : Type 0} {n m : N} {bytes old x y : List ℕ} {i j : ℕ} → m ≡ n → Put bytes old i y j → (n ≡ m → x ≡ y) → Put bytes old i x j

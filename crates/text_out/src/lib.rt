@@ -15,9 +15,11 @@ pub fn put_bytes(output: &mut [u8], at: usize, bytes: &[u8]) -> usize
     requires { at + length bytes.now ≤ length output.old }
     ensures { Put bytes.now output.old at output.new result }
 {
-    let after = at + bytes.len();
-    output[at..after].copy_from_slice(bytes);
-    after
+    // Kept, byte by byte: `copy_from_slice` is a call of C's `memmove`, which the library for C needs for nothing else.
+    for i in 0..bytes.len() {
+        output[at + i] = bytes[i];
+    }
+    at + bytes.len()
 }
 
 // A lent output, and the place up to which it is filled.

@@ -3,14 +3,8 @@
 use Rattle.levels.proofs.Labelled.{nexts}
 use Rattle.levels.proofs.labels.all_labels.Goals as goal
 
-pub slice_bounds-copy_from_slice-end : goal.slice_bounds-copy_from_slice-end
-slice_bounds-copy_from_slice-end c = search nexts
-
-pub slice_bounds-copy_from_slice-end-2 : goal.slice_bounds-copy_from_slice-end-2
-slice_bounds-copy_from_slice-end-2 c = search nexts
-
-pub copy_from_slice-requires : goal.copy_from_slice-requires
-copy_from_slice-requires c = search nexts
+pub copy-requires : goal.copy-requires
+copy-requires c = search nexts
 
 pub loop-level-init : goal.loop-level-init
 loop-level-init c = search nexts
