@@ -1,16 +1,15 @@
 -- Laws of a value as how many units it has: its word, and its two bytes. Assumes nothing.
-use mathlib.Core.Path.{◌≡◌, refl, sym, ap, ◌∙◌}
+use mathlib.Core.Path.{◌≡◌, refl, sym, ap, ap₂, ◌∙◌}
 use mathlib.Core.Bool.{true, false}
-use mathlib.Core.List.{List}
-use Prim.Native.Nat.{ℕ, zero, suc, ◌-◌, ◌/◌}
+use mathlib.Core.List.{List, [], ◌∷◌}
+use Prim.Native.Nat.{ℕ, zero, suc, ◌-◌, ◌/◌, ◌%◌}
+use native.Mathlib.Nat.{div-one}
 use borrow.Author.Rules.{rules}
-use lib.ListN.{take, drop}
 use lib.IntN.{ℤ, pos, negsuc, nat_abs}
 use lib.Signed.{lt_z, mag}
 use mir.Syntax.{w32}
 use mir.Val.{SFits, to_z, of_z}
 use mir.Facts.{to_z-of_z}
-use Rattle.std.specs.Int.{to_be_bytes}
 use Rattle.laws.specs.Whole.{neg}
 use Rattle.method.specs.OldForm.{short_word, two_bytes, stored, old_value_written}
 use Rattle.text_out.specs.Puts.{Put}
@@ -35,16 +34,14 @@ module _ (u : ℕ) (v : ℤ) (f : SFits w32 v) (s : ℕ) (e : s ≡ nat_abs (to_
       let w : v ≡ pos (mag v) = above v f b in
       ap (λ k. two_bytes (k / u)) (e ∙ ap nat_abs (to_z-of_z f ∙ w)) ∙ sym (ap (old_value_written u) w)
 
--- ---- its bytes: the last two of the word's four
-last_two : (w : ℕ) → take 2 (drop 2 (to_be_bytes w32 w)) ≡ two_bytes w
+-- ---- its bytes
+pub value_put : (u : ℕ) (v : ℤ) (x y : List ℕ) (i j w a b : ℕ) → SFits w32 v → two_bytes w ≡ old_value_written u (to_z w32 (of_z w32 v)) → a ≡ w / 256 % 256 → b ≡ w / 1 % 256
+    → Put (a ∷ b ∷ []) x i y j → Put (old_value_written u v) x i y j
 unfolding two_bytes
-last_two w = refl
-
-pub value_put : (u : ℕ) (v : ℤ) (x y bytes : List ℕ) (i j w : ℕ) → SFits w32 v → two_bytes w ≡ old_value_written u (to_z w32 (of_z w32 v)) → bytes ≡ to_be_bytes w32 w
-    → Put (take 2 (drop 2 bytes)) x i y j → Put (old_value_written u v) x i y j
-value_put u v x y bytes i j w f e b p =
-    let is : take 2 (drop 2 bytes) ≡ old_value_written u v = ap (λ l. take 2 (drop 2 l)) b ∙ last_two w ∙ e ∙ ap (old_value_written u) (to_z-of_z f) in
-    rw is at p
+value_put u v x y i j w a b f e p q z =
+    let bytes : a ∷ b ∷ [] ≡ old_value_written u v =
+    ap₂ (λ c d. c ∷ d ∷ []) p (q ∙ ap (λ k. k % 256) (div-one w)) ∙ e ∙ ap (old_value_written u) (to_z-of_z f) in
+    rw bytes at z
 
 pub ruleset words = (rules, word_below, word_above)
 

@@ -2,6 +2,7 @@
 ghost use Rattle.std.specs.Prelude.{◌≡◌, ◌<◌};
 ghost use Rattle.method.specs.OldForm.{two_bytes, old_value_written};
 
+use session_bytes::byte_of;
 use text_out::{Form, Sink};
 
 // The word of 16 bits that stores a value, in two's complement.
@@ -31,6 +32,6 @@ impl Form<i32> for InUnits {
 
     fn put(&self, sink: &mut Sink<'_>, v: i32) {
         let w = stored_word(v, self.unit);
-        sink.put(&w.to_be_bytes()[2..]);
+        sink.put(&[byte_of(w, 256), byte_of(w, 1)]);
     }
 }

@@ -85,22 +85,22 @@ unfolding line order_word
 order_put_little o a b i j e p = rw e p
 
 -- ---- values
-big_bytes : (v : ℤ) → to_be_bytes w32 (of_z w32 v) ≡ value_written Big v
+big_bytes : (v : ℤ) → to_be_bytes w32 (word_of v) ≡ value_written Big v
 unfolding value_written in_order four_bytes word_of
 big_bytes (pos n) = refl
 big_bytes (negsuc n) = refl
 
-little_bytes : (v : ℤ) → to_le_bytes w32 (of_z w32 v) ≡ value_written Little v
+little_bytes : (v : ℤ) → to_le_bytes w32 (word_of v) ≡ value_written Little v
 unfolding value_written in_order four_bytes word_of
 little_bytes (pos n) = refl
 little_bytes (negsuc n) = refl
 
-module _ (o : Order) (v : ℤ) (bytes x y : List ℕ) (i j : ℕ) (f : SFits w32 v) (u : Put bytes x i y j) where
-  pub value_big : o ≡ Big → bytes ≡ to_be_bytes w32 (of_z w32 (to_z w32 (of_z w32 v))) → Put (value_written o v) x i y j
-  value_big e b = rw (e, ← big_bytes v) (rw (to_z-of_z f) at (rw b at u))
+module _ (o : Order) (v : ℤ) (w : ℕ) (bytes x y : List ℕ) (i j : ℕ) (f : SFits w32 v) (k : w ≡ word_of (to_z w32 (of_z w32 v))) (u : Put bytes x i y j) where
+  pub value_big : o ≡ Big → bytes ≡ to_be_bytes w32 w → Put (value_written o v) x i y j
+  value_big e b = rw (e, ← big_bytes v) (rw (to_z-of_z f) at (rw k at (rw b at u)))
 
-  pub value_little : o ≡ Little → bytes ≡ to_le_bytes w32 (of_z w32 (to_z w32 (of_z w32 v))) → Put (value_written o v) x i y j
-  value_little e b = rw (e, ← little_bytes v) (rw (to_z-of_z f) at (rw b at u))
+  pub value_little : o ≡ Little → bytes ≡ to_le_bytes w32 w → Put (value_written o v) x i y j
+  value_little e b = rw (e, ← little_bytes v) (rw (to_z-of_z f) at (rw k at (rw b at u)))
 
 value_length : (o : Order) (v : ℤ) → length (value_written o v) ≡ 4
 unfolding value_written in_order four_bytes
@@ -132,8 +132,6 @@ pub whole_put : (s : Sides) (o : Order) (t : Settings) (ls : List ℕ) (vs : Lis
     → Put (flat_map (value_written o) vs) c k d m → Put (written (record { sides = s; labels = ls; values = vs }) o t) a 0 d m
 unfolding written
 whole_put s o t ls vs a b c d j k m p q u = all_put _ _ _ a b c d 0 j k m p q u
-
-pub ruleset valuing = (rules, value_big, value_little)
 
 pub ruleset wholes = (rules, whole_first, whole_second, whole_third, whole_put)
 

@@ -3,13 +3,14 @@
 
 pub mod length;
 
-ghost use Rattle.std.specs.Prelude.{◌≤◌, length};
+ghost use Rattle.std.specs.Prelude.{◌≡◌, ◌<◌, ◌≤◌, ◌/◌, ◌%◌, length};
 ghost use Rattle.laws.specs.Text.{text};
 ghost use Rattle.method.specs.Form.{line, order_word, header_written, value_written, written};
 ghost use Rattle.text_out.specs.Puts.{Put, Room, Puts};
 ghost use Rattle.session_bytes.specs.Lengths.{three_lines};
 
 use method::{Order, Settings, Sides};
+use session_values::word_of;
 use text_out::{Form, Sink};
 
 // Puts the line of the order.
@@ -51,6 +52,14 @@ fn put_header(sink: &mut Sink<'_>, sides: Sides, order: Order, settings: Setting
     );
 }
 
+// The byte of a word that stands k bytes above the least, with `unit` 256 to the k.
+pub fn byte_of(w: u32, unit: u32) -> u8
+    requires { 0 < unit }
+    ensures { result ≡ w / unit % 256 }
+{
+    (w / unit % 256) as u8
+}
+
 // A value is put as its four bytes, in the order that the session names.
 #[derive(Clone, Copy, Drop)]
 struct InOrder(Order);
@@ -61,9 +70,10 @@ impl Form<i32> for InOrder {
     ghost most = { λ s. 4 };
 
     fn put(&self, sink: &mut Sink<'_>, v: i32) {
+        let w = word_of(v);
         let bytes = match self.0 {
-            Order::Big => v.to_be_bytes(),
-            Order::Little => v.to_le_bytes(),
+            Order::Big => w.to_be_bytes(),
+            Order::Little => w.to_le_bytes(),
         };
         sink.put(&bytes);
     }

@@ -21,7 +21,7 @@ use Rattle.method.specs.declared.Order.{Order}
 use Rattle.method.specs.declared.Order.TheVariants.{Big, Little}
 use Rattle.method.specs.Cast.{label_at, widest}
 use Rattle.method.specs.Rooms.{filled}
-use Rattle.method.specs.Form.{in_order, most_first, twos_complement, value_read}
+use Rattle.method.specs.Form.{in_order, most_first, twos_complement, word_of, value_read}
 use Rattle.session_values.specs.Body.{value_in, bad_value_in}
 
 -- ---- two's complement, as the library casts
@@ -32,6 +32,14 @@ as_read w v q = q ∙ go (ltb w 2147483648) refl
     go : (b : Bool) → ltb w 2147483648 ≡ b → to_z w32 w ≡ cond (ltb w 2147483648) (pos w) (negsuc (4294967296 - suc w))
     go true e = rw e
     go false e = rw e
+
+word_cast : (v : ℤ) → of_z w32 v ≡ word_of v
+unfolding word_of
+word_cast (pos n) = refl
+word_cast (negsuc n) = refl
+
+pub as_word : (w : ℕ) (v : ℤ) → SFits w32 v → w ≡ of_z w32 (to_z w32 (of_z w32 v)) → w ≡ word_of v
+as_word w v f q = q ∙ ap (of_z w32) (to_z-of_z f) ∙ word_cast v
 
 -- ---- the four bytes at a place
 four : (l : List ℕ) (at : ℕ) → at + 4 ≤ length l → take 4 (drop at l) ≡ get_or l at 0 ∷ get_or l (at + 1) 0 ∷ get_or l (at + 2) 0 ∷ get_or l (at + 3) 0 ∷ []
@@ -87,4 +95,4 @@ module _ {A : Type 0} where
   unfolding filled
   stored_all f old now c n a b h = h.is ∙ ap (λ k. tab k f ++ drop k old) (omega arith)
 
-pub ruleset words = (rules, as_read, bytes_word, big_word, little_word, value_of_cell, bad_of_cell)
+pub ruleset words = (rules, as_read, as_word, bytes_word, big_word, little_word, value_of_cell, bad_of_cell)

@@ -5,7 +5,7 @@ ghost use Rattle.std.specs.Prelude.{◌≡◌, ℕ, ℤ, [], ◌∷◌, ◌+◌,
 ghost use Rattle.laws.specs.Lists.{tab};
 ghost use Rattle.method.specs.Rooms.{filled};
 ghost use Rattle.method.specs.Cast.{first};
-ghost use Rattle.method.specs.Form.{in_order, most_first, twos_complement};
+ghost use Rattle.method.specs.Form.{in_order, most_first, twos_complement, word_of};
 ghost use Rattle.session_values.specs.Body.{bad_value_in, value_in};
 
 use checks::cast::out_of_range;
@@ -39,6 +39,13 @@ pub fn signed(w: u32) -> i32
     ensures { result ≡ twos_complement w }
 {
     w.cast_signed()
+}
+
+// A signed number as a word.
+pub fn word_of(v: i32) -> u32
+    ensures { result ≡ word_of v }
+{
+    v.cast_unsigned()
 }
 
 // The value of cell c of a body of n cells.
