@@ -2,8 +2,9 @@
 use Rattle.std.specs.Prelude.{◌≡◌, ℕ, Bool, true, false, not, List, [], ◌∷◌, Option, Some, None, Result, Ok, Err, refl}
 use Rattle.std.proofs.Common.{sym, ap, ap₂, ◌∙◌}
 use borrow.Author.Rules.{rules}
-use Rattle.method.specs.Answers.{Check, fault, refused, verdict}
+use Rattle.method.specs.Answers.{Check, fault, Verdict, passed, refused, verdict}
 use Rattle.theory.proofs.Verdicts.{after, verdict_cons, fault_no}
+use Rattle.answers.specs.Faults.{number_of, place_of}
 use Rattle.answers.specs.declared.Fault.{Fault}
 use Rattle.answers.specs.declared.Fault.TheVariants.{SideOutOfRange, WrongLength, SettingOutOfRange, BadLabel, BadValue, NoAir, SealedAir, BadLine, BadBody, Inexpressible}
 use Rattle.checks.specs.Rulings.{ruling_of, ruling_by, unless, first_of}
@@ -63,6 +64,31 @@ first_assoc (Ok u) b c = refl
 pub last_ruling : (r : Result (Unit {0}) Fault) → first_of r (Ok tt) ≡ r
 last_ruling (Err e) = refl
 last_ruling (Ok u) = refl
+
+-- a number and a place, or none, as a verdict
+abbrev pub verdict_of : Result (Unit {0}) (ℕ × ℕ) → Verdict
+verdict_of (Err e) = refused e.0 e.1
+verdict_of (Ok u) = passed
+
+-- a verdict as a number and a place, or none
+abbrev pub ruling_in : Verdict → Result (Unit {0}) (ℕ × ℕ)
+ruling_in passed = Ok tt
+ruling_in (refused k p) = Err (k, p)
+
+-- Each verdict, of any number and place, is that of what it rules. No proof cites it: docs/ name it.
+pub ruling_in_lem : (v : Verdict) → v ≡ verdict_of (ruling_in v)
+ruling_in_lem passed = refl
+ruling_in_lem (refused k p) = refl
+
+-- a ruling of the code, each fault by its number and its place
+abbrev pub by_number : Result (Unit {0}) Fault → Result (Unit {0}) (ℕ × ℕ)
+by_number (Err e) = Err (number_of e, place_of e)
+by_number (Ok u) = Ok u
+
+-- The verdict of a ruling of the code is that of its number and place. No proof cites it: it ties `ruling_in_lem` to what the code rules.
+pub by_number_lem : (r : Result (Unit {0}) Fault) → ruling_of r ≡ verdict_of (by_number r)
+by_number_lem (Err e) = refl
+by_number_lem (Ok u) = refl
 
 -- nothing is against it: neither the first nor the second
 pub both_allowed : (a b : Result (Unit {0}) Fault) → first_of a b ≡ Ok tt → (a ≡ Ok tt) × (b ≡ Ok tt)

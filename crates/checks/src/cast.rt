@@ -140,6 +140,8 @@ fn judge_values(labels: &[u8], values: &[i32], n: usize) -> Result<(), Fault>
 }
 
 // Checks 4 and 5 of n cells.
+// Not inlined: among the other loops of `quetz_write` these two would go without a register for each slice.
+#[inline(never)]
 pub fn judge_cells(labels: &[u8], values: &[i32], n: usize) -> Result<(), Fault>
     requires { (n ≤ 32768) × ((n ≤ length labels.now) × (n ≤ length values.now)) }
     ensures { result ≡ cell_ruling labels.now values.now n }

@@ -76,6 +76,9 @@ module _ (g : Sides) (ls : List ℕ) (count : ℕ) where
 -- ---- THE ROOMS ARE PREPARED
 module _ (l : Levels) (count : ℕ) (bytes e words : List ℕ) (s : Lists) (a : ListsAsked l count bytes (length e)) (least : 1 ≤ count)
     (long : length words ≡ length e) (p : AllListed (base l) (base_labels l bytes) count e s words) where
+  air_at_lem : (k : ℕ) → k < count → (row_in s k).air ≡ length (air_at (base l) (base_labels l bytes) count k)
+  air_at_lem k h = row_air p k a.most h
+
   words_are : words ≡ lists_before (base l) (base_labels l bytes) count count ++ drop (0 + length (lists_before (base l) (base_labels l bytes) count count)) e
   unfolding written
   words_are = p.room
@@ -109,10 +112,10 @@ module _ (l : Levels) (count : ℕ) (bytes e words : List ℕ) (s : Lists) (a : 
     most = a.most;
     inside = room_enough (base l) (length bytes) count a.fit a.full a.most;
     labels = a.labels;
-    ends = λ k h. omega (arith, row_start p k a.most h, row_air p k a.most h, lists_inside (base l) (base_labels l bytes) count count k h, words_long);
-    within = λ k h. omega (arith, row_swept p k a.most h, row_air p k a.most h, swept_within (base l) (base_labels l bytes) count k);
+    ends = λ k h. omega (arith, row_start p k a.most h, air_at_lem k h, lists_inside (base l) (base_labels l bytes) count count k h, words_long);
+    within = λ k h. omega (arith, row_swept p k a.most h, air_at_lem k h, swept_within (base l) (base_labels l bytes) count k);
     lists = λ k h. ap (λ n. take n (drop ((row_in s k).start) words)) (row_swept p k a.most h) ∙ swept_part k h;
-    air = λ k h. ap (λ n. take n (drop ((row_in s k).start) words)) (row_air p k a.most h) ∙ air_part k h;
+    air = λ k h. ap (λ n. take n (drop ((row_in s k).start) words)) (air_at_lem k h) ∙ air_part k h;
   }
 
 -- the same from the labels as `all_labels` was given and left them

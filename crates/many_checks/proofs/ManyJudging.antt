@@ -47,10 +47,10 @@ many_ruled a =
 pub sides_known : {g : Sides} {r : Result (Unit {0}) Fault} → r ≡ unless SideOutOfRange (sides_fit g) → r ≡ Ok tt → Fit g
 sides_known {g} e h = fit g (ruled_well SideOutOfRange (sides_fit g) (sym e ∙ h))
 
+first_holds : (p q : Bool) → (p && q) ≡ true → p ≡ true
+first_holds true q w = refl
+first_holds false q w = absurd (false≢true w)
+
 pub labels_known : (n k l : ℕ) (of : Lengths) (f : Bool) → f ≡ lengths_by n k l of → f ≡ true → l ≡ n
 unfolding lengths_by
 labels_known n k l of f e q = eqb-true l n (first_holds (eqb l n) _ (sym e ∙ q))
-  where
-    first_holds : (p q : Bool) → (p && q) ≡ true → p ≡ true
-    first_holds true q w = refl
-    first_holds false q w = absurd (false≢true w)

@@ -2,11 +2,11 @@
 use mathlib.Core.Path.{◌≡◌, refl, sym, ap, ap₂, ◌∙◌}
 use mathlib.Core.Bool.{Bool, true, false, not, ◌&&◌}
 use mathlib.Core.List.{List, [], ◌∷◌}
-use Prim.Native.Nat.{ℕ, ◌-◌, ◌*◌, ◌≤◌}
+use Prim.Native.Nat.{ℕ, ◌-◌, ◌*◌, ◌≤◌, ◌<◌}
 use native.Mathlib.Omega.{arith}
 use borrow.Author.Rules.{rules}
-use borrow.Author.Tests.{ltb-false, eqb-true}
-use lib.Dec.{ltb, eqb}
+use borrow.Author.Tests.{eq-eqb, lt-ltb, ltb-false, leb-false, eqb-true}
+use lib.Dec.{ltb, leb, eqb}
 use lib.IntN.{pos, nat_abs}
 use lib.ListN.{length, take, drop, replicate, length-drop, length-replicate}
 use lib.Seq.{take_all}
@@ -38,6 +38,19 @@ pub sides_allowed : (s : Sides) (r : Result (Unit {0}) Fault) → r ≡ unless S
 sides_allowed s r e d = fit s (ruled_well SideOutOfRange (sides_fit s) (sym e ∙ d))
 
 pub ruleset sizes = (rules, sides_allowed)
+
+-- ---- check 2, of sides that fit and a body of 3 bytes a cell
+pub sizes_2 : (s : Sides) (u left room : ℕ) (t : Settings) (a : Bool) → a ≡ sides_fit s → a ≡ true → (n : ℕ) → n ≡ cells s → left ≡ 3 * n → room < n
+    → Err WrongLength ≡ old_size_ruling s u left room t
+sizes_2 s u left room t a e d n c f g = rw (sym e ∙ d, eq-eqb left (3 * cells s) (f ∙ ap (λ k. 3 * k) c), lt-ltb room (cells s) (omega arith))
+
+-- what the code tests of the room
+pub room_short : (n room : ℕ) (d : Fault) → unless WrongLength (leb n room) ≡ Err d → (room < n) × (d ≡ WrongLength)
+room_short n room d e = go (leb n room) refl e
+  where
+    go : (b : Bool) → leb n room ≡ b → unless WrongLength b ≡ Err d → (room < n) × (d ≡ WrongLength)
+    go true q k = cc
+    go false q k = (leb-false n room q, cc)
 
 not_twice : (b : Bool) → b ≡ not (not b)
 not_twice true = refl

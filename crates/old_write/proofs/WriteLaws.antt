@@ -1,6 +1,6 @@
 -- Laws of the writer: check 13 by sizes, lengths, the checks in their order, and what it makes of a judgement. Assumes
 -- nothing.
-use mathlib.Core.Path.{◌≡◌, refl, sym, ap, ◌∙◌}
+use mathlib.Core.Path.{◌≡◌, refl, sym, ap, ap₂, ◌∙◌}
 use mathlib.Core.Logic.{⊎_elim}
 use mathlib.Core.Bool.{Bool, true, false, not, ◌&&◌, false≢true}
 use mathlib.Core.List.{List, ◌++◌}
@@ -20,7 +20,7 @@ use Rattle.laws.specs.Whole.{neg}
 use Rattle.laws.proofs.Naturals.{le_or_lt}
 use Rattle.method.specs.declared.Answer.{Answer}
 use Rattle.method.specs.declared.Sides.{Sides}
-use Rattle.std.specs.Prelude.{Result, Ok, Err}
+use Rattle.std.specs.Prelude.{Option, Result, Ok, Err}
 use Rattle.method.specs.Cast.{cells, sides_fit, first}
 use Rattle.method.specs.Answers.{fault, passed, refused, verdict, refusal, done}
 use Rattle.method.specs.Rooms.{filled}
@@ -29,7 +29,8 @@ use Rattle.theory.specs.Sides.{Fit}
 use Rattle.theory.proofs.Sides.{fit}
 use Rattle.theory.proofs.Verdicts.{verdict_agree, passes_on, fault_no}
 use Rattle.theory.proofs.OldRoundTrip.{unit_from}
-use Rattle.checks.specs.Rulings.{ruling_of, ruling_by, unless}
+use Rattle.checks.specs.Faults.{cell_ruling}
+use Rattle.checks.specs.Rulings.{ruling_of, ruling_by, unless, first_of}
 use Rattle.answers.specs.Faults.{number_of, place_of}
 use Rattle.answers.specs.declared.Fault.{Fault}
 use Rattle.answers.specs.declared.Fault.TheVariants.{SideOutOfRange, WrongLength, SettingOutOfRange, Inexpressible}
@@ -125,6 +126,12 @@ module _ (s : Sides) (u : ℕ) (ls : List ℕ) (vs : List ℤ) (room : ℕ) wher
 
       pub slices_values : n ≤ length vs
       slices_values = omega (arith, c, (lengths_known (sym p ∙ e)).1.0)
+
+      pub slices_cells : (o q r : Result (Unit {0}) Fault) (x : Option ℕ) → o ≡ first_of q r → q ≡ cell_ruling ls vs n → r ≡ ruling_by Inexpressible x → x ≡ first (inexpressible u vs) n
+          → o ≡ old_slice_ruling lent
+      slices_cells o q r x g a d f =
+          g ∙ ap₂ first_of (a ∙ ap (cell_ruling ls vs) c) (d ∙ ap (ruling_by Inexpressible) (f ∙ ap (first (inexpressible u vs)) c))
+          ∙ sym (ap (λ y. first_of (unless WrongLength y) (first_of (cell_ruling ls vs (cells s)) (ruling_by Inexpressible (first (inexpressible u vs) (cells s))))) (sym p ∙ e))
 
   room_if : 0 < u → (q : Result (Unit {0}) Fault) → q ≡ old_slice_ruling lent → OldRoomIf u (length whole) room q
   unfolding OldRoomIf

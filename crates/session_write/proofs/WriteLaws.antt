@@ -85,6 +85,9 @@ module _ (s : Sides) (o : Order) (t : Settings) (ls : List ℕ) (vs : List ℤ) 
       pub slices_values : n ≤ length vs
       slices_values = omega (arith, c, (lengths_known (sym p ∙ e)).1.0)
 
+      pub slices_cells : (r : Result (Unit {0}) Fault) → r ≡ cell_ruling ls vs n → r ≡ slice_ruling lent
+      slices_cells r q = q ∙ ap (cell_ruling ls vs) c ∙ sym (ap (λ y. first_of (unless WrongLength y) (cell_ruling ls vs (cells s))) (sym p ∙ e))
+
   room_if : (q : Result (Unit {0}) Fault) → q ≡ slice_ruling lent → RoomIf (length whole) room q
   unfolding RoomIf
   room_if (Err d) e = tt

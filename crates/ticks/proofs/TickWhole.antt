@@ -66,3 +66,8 @@ back_is x t r f e q = to_z-of_z f ∙ q ∙ go t ∙ ap whole_of e
     go : (u : Option ℤ) → unwrap_or u (pos 0) ≡ whole_of u
     go (Some z) = refl
     go None = refl
+
+-- Where there is no tick, 0 is read. No proof cites it, since `back_is` says both cases: docs/ name it.
+pub held_none : (x : Float) (t : Option ℤ) → t ≡ tick x → t ≡ None → pos 0 ≡ whole_of (tick x)
+unfolding whole_of
+held_none x t e w = ap whole_of (sym w ∙ e)
