@@ -78,7 +78,8 @@ fn worst_at(g: Sides, labels: &[u8], values: &[i32], x: &[f64], c: usize, w: u64
     ensures { result ≡ worst_step g labels.now values.now (rounded_on g labels.now values.now x.now) c w }
 {
     if label_at(labels, c) == 0 {
-        let a = residual_at(g, labels, values, x, c).unsigned_abs();
+        let r = residual_at(g, labels, values, x, c);
+        let a = r.unsigned_abs();
         if w < a {
             return a;
         }

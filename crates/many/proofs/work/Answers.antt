@@ -1,4 +1,5 @@
 use mathlib.Core.Path.{refl, ◌∙◌}
+use borrow.Author.Rules.{rules}
 use Rattle.many.proofs.ManyWorking.{search_room, count_fit, prepare_asked, cast_ready, worked_refused, worked_sets}
 use Rattle.many.proofs.work.Goals as goal
 
@@ -24,4 +25,4 @@ pub shape_of-words-in-None : goal.shape_of-words-in-None
 shape_of-words-in-None c = c.prepare-plan.auto.words ∙ c.distances-walked.auto.room
 
 pub returns-in-None : goal.returns-in-None
-returns-in-None c = worked_sets _ _ _ _ _ _ _ _ _ c.distances-walked.ensures.sealed_is _ _ c.in-None.is c.done.ensures c.all_sets.ensures
+returns-in-None c = worked_sets _ _ _ _ _ _ _ _ _ c.distances-walked.ensures.sealed_is _ _ c.in-None.is (search rules) c.all_sets.ensures

@@ -2,7 +2,9 @@
 use Prim.Native.Nat.{◌≤◌, ◌^◌}
 use mathlib.Core.Path.{◌≡◌, ap, ◌∙◌}
 use native.Mathlib.Omega.{arith}
+use borrow.Author.Rules.{rules}
 use lib.IntN.{ℤ, nat_abs}
+use lib.Seq.{take_all}
 use mir.Syntax.{w32, w64}
 use mir.Val.{SFits, to_z, of_z}
 use mir.Facts.{to_z-of_z}
@@ -29,4 +31,4 @@ returns c =
     let f : SFits w32 v = record { sfits = c.from-arg-1.given } in
     let k : SFits w64 c.from-b.result = record { sfits = c.from-b.type_inv } in
     let e : to_z w64 (of_z w64 c.from-b.result) ≡ v = to_z-of_z k ∙ gives_wide v c.from-b.result f c.from-b.ensures in
-    gathering_end c.args.g c.args.c l.j-index (to_z w64 (of_z w64 c.from-b.result)) (to_z w64 l.b-bits) c.neighbours-around.ensures e l.invariant (omega arith) (omega arith)
+    gathering_end c.args.g c.args.c l.j-index (to_z w64 (of_z w64 c.from-b.result)) (to_z w64 l.b-bits) (search (rules, take_all)) e l.invariant (omega arith) (omega arith)
